@@ -1,0 +1,4 @@
+pub mod Tree
+pub mod Types
+pub mod Value
+pub mod Formula
