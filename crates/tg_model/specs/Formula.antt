@@ -1,5 +1,5 @@
 -- Formulas over terms.
-use Rattle.std.specs.Prelude.{ℕ, List, [], ◌∷◌}
+use Rattle.std.specs.Prelude.{ℕ, List}
 use Rattle.tg_model.specs.Tree.{Tree, Trees}
 use Rattle.tg_model.specs.Types.{Ty}
 

@@ -2,3 +2,9 @@ pub mod Tree
 pub mod Types
 pub mod Value
 pub mod Formula
+pub mod Theory
+pub mod Typing
+pub mod Table
+pub mod Denotation
+pub mod Truth
+pub mod Laws
