@@ -1,0 +1,6 @@
+//! The top call of `testgen`: words and a source in, one answer and the bytes in the sink out.
+#![tactic(auto)]
+
+mod form;
+mod pieces;
+mod words;
