@@ -1,7 +1,7 @@
 -- The tree of a node, whose terms are trees already.
 use Rattle.std.specs.Prelude.{◌≡◌, ℕ, List, [], ◌∷◌, refl}
 use Rattle.std.proofs.Common.{ap, sym, ◌∙◌}
-use Rattle.tg_model.specs.Tree.{Tree, Trees, Arms, bound, free, literal, truth, con, call, put, choice, case, bind, op, end, arm, trees, listed}
+use Rattle.tg_model.specs.Tree.{Tree, Arms, bound, free, literal, truth, con, call, put, choice, case, bind, op, end, arm, trees, listed}
 use Rattle.tg_term.specs.Operators.{operator, operator_number, operator_number-operator}
 use Rattle.tg_term.specs.declared.terms.Branch.{Branch}
 use Rattle.tg_term.specs.declared.terms.Node.{Node}

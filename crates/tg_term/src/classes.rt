@@ -3,7 +3,7 @@ use sqlite_items::Items;
 use tg_types::Ty;
 
 /// The inputs of a class: terms of constructors and of variables `Free(1)`, `Free(2)` and so on.
-#[derive(Drop)]
+#[derive(Debug, Drop)]
 pub struct Pattern {
     /// One term for each input of the program.
     pub terms: Items<Term>,
@@ -11,20 +11,20 @@ pub struct Pattern {
     pub vars: Items<Ty>,
 }
 
-/// A class of inputs: those of the pattern's shape that meet the constraints. The program passes on them
-/// where one of the checks is true.
-#[derive(Drop)]
+/// A class of inputs: those of the pattern's shape at which the constraints are true. The specification
+/// says of them that one of the checks is true, so of a class with no check that it has no input.
+#[derive(Debug, Drop)]
 pub struct Class {
     /// The shape of the inputs.
     pub pattern: Pattern,
-    /// What the inputs meet, as terms of type bool that don't name the program.
+    /// Terms of type bool over the pattern's variables. They don't name the program.
     pub constraints: Items<Term>,
-    /// What one of must be true of the program, as terms of type bool that name it.
+    /// Terms of type bool over the pattern's variables. They name the program.
     pub checks: Items<Term>,
 }
 
 /// A test: inputs of a class on which the program is to be run.
-#[derive(Drop)]
+#[derive(Debug, Drop)]
 pub struct Test {
     /// The number of the class, from 1. It is the number of the test too.
     pub class: u32,
@@ -33,7 +33,7 @@ pub struct Test {
 }
 
 /// What is recorded of a run of the program on a test.
-#[derive(Drop)]
+#[derive(Debug, Drop)]
 pub struct Outcome {
     /// The number of the test, from 1.
     pub test: u32,

@@ -3,11 +3,13 @@ use sqlite_items::{Boxed, Items};
 use tg_types::Ty;
 
 /// A formula over terms. In the formula of a quantifier the loose bound variable 0 is the quantified one.
-#[derive(Drop)]
+#[derive(Debug, Drop)]
 pub enum Formula {
-    /// A term of type bool is true.
+    /// The term, which is of type bool, is true.
     Atom(Term),
+    /// Both formulas hold.
     And(Boxed<Formula>, Boxed<Formula>),
+    /// The second formula holds if the first does.
     Imp(Boxed<Formula>, Boxed<Formula>),
     /// For all values of a type.
     All(Ty, Boxed<Formula>),

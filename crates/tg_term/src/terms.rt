@@ -18,14 +18,14 @@ pub type OpId = u32;
 
 /// A term, which shares its node with the terms that were made from it. A contract sees it as a tree.
 #[cycle(term)]
-#[derive(Drop)]
+#[derive(Debug, Drop)]
 pub struct Term {
     node: Rc<Node>,
 }
 
 /// What stands at the root of a term, and the terms below it.
 #[cycle(term)]
-#[derive(Drop)]
+#[derive(Debug, Drop)]
 pub enum Node {
     /// The variable of the binder that is this number of binders further out, from 0.
     Bound(u32),
@@ -54,7 +54,7 @@ pub enum Node {
 
 /// A branch of a case.
 #[cycle(term)]
-#[derive(Drop)]
+#[derive(Debug, Drop)]
 pub struct Branch {
     /// How many variables the branch binds, one for each argument of its constructor. The last of them
     /// is the innermost binder.
@@ -108,5 +108,24 @@ impl Term {
         ensures { tree result.now ≡ self.now }
     {
         self.node.as_ref()
+    }
+}
+
+#[cfg(test)]
+mod tests {
+    use super::*;
+    use std::test::Fail;
+
+    #[test]
+    fn a_shared_term_has_the_same_node(rt: HostRuntime) -> Result<(), Fail> {
+        let alloc = rt.alloc();
+        let one = Term::new(alloc, Node::Lit(1))?;
+        let mut items = Items::new(alloc);
+        items.push(one.share()?)?;
+        let two = Term::new(alloc, Node::Op(1, items))?;
+        assert!(rt; matches!(one.node(), Node::Lit(1)));
+        let again = two.share()?;
+        assert!(rt; matches!(again.node(), Node::Op(1, items) if items.len() == 1));
+        Ok(())
     }
 }
