@@ -1,4 +1,4 @@
--- Values and formulas of the program, each with that of the model.
+-- Values and formulas of the program, with those of the model that they stand for.
 use Rattle.std.specs.Prelude.{◌≡◌, [], ◌∷◌, true}
 use Rattle.std.proofs.Common.{refl}
 use Rattle.tg_model.specs.Formula as formulas

@@ -1,4 +1,4 @@
--- Nodes, values and formulas of the program, each with what it stands for.
+-- Operators by their numbers, nodes with the trees that they stand for, and heights of trees.
 use Rattle.std.specs.Prelude.{◌≡◌, [], ◌∷◌, true}
 use Rattle.std.proofs.Common.{refl}
 use Rattle.tg_model.specs.Tree as trees

@@ -1,4 +1,4 @@
--- The tree of a node, whose terms are trees already.
+-- The tree of a node. In a contract the terms of a node are trees already.
 use Rattle.std.specs.Prelude.{◌≡◌, ℕ, List, [], ◌∷◌, refl}
 use Rattle.std.proofs.Common.{ap, sym, ◌∙◌}
 use Rattle.tg_model.specs.Tree.{Tree, Arms, bound, free, literal, truth, con, call, put, choice, case, bind, op, end, arm, trees, listed}

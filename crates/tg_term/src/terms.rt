@@ -16,7 +16,7 @@ pub type FunId = u32;
 /// The number of an operator: its place, from 1, in `Suc ~ & | --> = < <= + - * div mod`.
 pub type OpId = u32;
 
-/// A term, which shares its node with the terms that were made from it. A contract sees it as a tree.
+/// A term. It shares its node with the terms that `share` makes of it. A contract sees it as a tree.
 #[cycle(term)]
 #[derive(Debug, Drop)]
 pub struct Term {
@@ -46,7 +46,7 @@ pub enum Node {
     /// A term that is taken apart, with a branch for each constructor of its datatype, in their order.
     /// The number is that of the datatype, or 0 for the naturals, whose constructors are 0 and `Suc`.
     Case(DataId, Term, Items<Branch>),
-    /// The bound term, and the term in which the innermost binder stands for it.
+    /// A term, and the term in which its innermost loose bound variable stands for the first.
     Let(Term, Term),
     /// An operator at its arguments.
     Op(OpId, Items<Term>),
