@@ -1,0 +1,10 @@
+pub mod Classes
+pub mod Code
+pub mod Falls
+pub mod Formulas
+pub mod Height
+pub mod KnownFormulas
+pub mod KnownValues
+pub mod Operators
+pub mod Values
+pub mod View

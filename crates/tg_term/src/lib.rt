@@ -1,0 +1,12 @@
+//! Terms, values, formulas, and the classes of inputs that are made of them.
+#![tactic(auto)]
+
+mod classes;
+mod formulas;
+mod terms;
+mod values;
+
+pub use classes::{Class, Outcome, Pattern, Test};
+pub use formulas::Formula;
+pub use terms::{Branch, ConId, FunId, Node, OpId, Term};
+pub use values::Value;
