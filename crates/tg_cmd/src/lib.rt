@@ -3,4 +3,5 @@
 
 mod form;
 mod pieces;
+mod report;
 mod words;

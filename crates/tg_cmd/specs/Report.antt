@@ -1,0 +1,62 @@
+-- The report of a form.
+use Rattle.std.specs.Prelude.{ℕ, List, [], ◌∷◌, ◌++◌, codes, if◌then◌else◌}
+use Rattle.tg_types.specs.declared.options.Settings.{Settings}
+use Rattle.tg_model.specs.Tree.{Tree, free}
+use Rattle.tg_model.specs.Formula.{Formula}
+use Rattle.tg_cmd.specs.Form.{Form}
+use Rattle.tg_cmd.specs.Text.{Shown, written, number, chain, term, formula}
+use Rattle.tg_cmd.specs.Theorem.{constraint_at, check_at, theory_of, test_of, uniformity_of, open_class_of, conclusion_of, has_datum}
+
+-- lines, each ended by LF
+abbrev pub lines : List Shown → List ℕ
+lines [] = []
+lines (line ∷ rest) = line (codes "\n" ++ lines rest)
+
+abbrev pub settings : Settings → Shown
+settings s = chain (written (codes "depth ") ∷ number s.depth ∷ written (codes " bound ") ∷ number s.bound ∷ written (codes " seed ") ∷ number s.seed
+  ∷ written (codes " tries ") ∷ number s.tries ∷ written (codes " width ") ∷ number s.width ∷ [])
+
+abbrev pub default_settings : Settings
+default_settings = record { depth = 3; bound = 8; seed = 1; tries = 1000; width = 16 }
+
+-- a word and then a term or a formula
+abbrev pub term_line : List ℕ → Form → Tree → Shown
+term_line word f t = chain (written word ∷ written (codes " ") ∷ term (theory_of f) 0 t ∷ [])
+
+abbrev pub formula_line : List ℕ → Form → Formula → Shown
+formula_line word f g = chain (written word ∷ written (codes " ") ∷ formula (theory_of f) 0 g ∷ [])
+
+unfoldable pub head_text : Form → List ℕ
+head_text f =
+    lines (chain (written (codes "testgen ") ∷ written f.name ∷ []) ∷ chain (written (codes "settings ") ∷ settings default_settings ∷ []) ∷ [])
+
+-- the one class; its pattern is a variable
+unfoldable pub class_text : Form → List ℕ
+class_text f = lines (written (codes "class 1")
+  ∷ term_line (codes "pattern") f (free 1)
+  ∷ term_line (codes "constraint") f (constraint_at f (free 1))
+  ∷ term_line (codes "check") f (check_at f (free 1))
+  ∷ [])
+
+-- a class with a datum is tested
+unfoldable pub test_text : Form → List ℕ
+test_text f = lines (written (codes "datum 0")
+  ∷ written (codes "theorem")
+  ∷ formula_line (codes "test 1") f (test_of f)
+  ∷ formula_line (codes "uniformity 1") f (uniformity_of f)
+  ∷ [])
+
+unfoldable pub open_text : Form → List ℕ
+open_text f = lines (written (codes "open") ∷ written (codes "theorem") ∷ formula_line (codes "open 1") f (open_class_of f) ∷ [])
+
+abbrev pub hypotheses_text : Form → List ℕ
+hypotheses_text f = if has_datum f then test_text f else open_text f
+
+unfoldable pub conclusion_text : Form → List ℕ
+conclusion_text f = lines (formula_line (codes "conclusion") f (conclusion_of f) ∷ [])
+
+unfoldable pub counts_text : Form → List ℕ
+counts_text f = lines (written (if has_datum f then codes "classes 1 tests 1 open 0" else codes "classes 1 tests 0 open 1") ∷ [])
+
+unfoldable pub report : Form → List ℕ
+report f = head_text f ++ (class_text f ++ (hypotheses_text f ++ (conclusion_text f ++ counts_text f)))
