@@ -1,0 +1,26 @@
+-- A source in memory, as its callers see it, and what a call does to it.
+use Rattle.std.specs.Prelude.{◌≡◌, ℕ, List, length, min, Result, OnErr}
+use Rattle.tg_io.specs.Faults.{one_more}
+
+pub record Supply : Type 0 where
+  -- the bytes not yet given
+  pub rest : List ℕ
+  -- the most bytes that a call gives
+  pub piece : ℕ
+  -- the numbers of the calls that fail
+  pub failing : List ℕ
+  -- the calls so far, from which the next call has its number
+  pub calls : ℕ
+  -- the failures so far
+  pub faults : ℕ
+
+-- how many bytes a call that does not fail gives into a buffer of this length
+abbrev pub given_count : Supply → ℕ → ℕ
+given_count s room = min s.piece (min room (length s.rest))
+
+-- the call is counted, and so is its failure. What was asked of the source at first stays
+pub record CountsRead {E : Type 0} (old new : Supply) (r : Result ℕ E) : Type 0 where
+  pub called : new.calls ≡ one_more old.calls
+  pub failed : OnErr r (new.faults ≡ one_more old.faults)
+  pub piece : new.piece ≡ old.piece
+  pub failing : new.failing ≡ old.failing
