@@ -1,5 +1,5 @@
 -- A sink in memory, as its callers see it, and what a call does to it.
-use Rattle.std.specs.Prelude.{◌≡◌, ℕ, ◌+◌, ◌⊎◌, List, min, Result, OnErr, IfOk}
+use Rattle.std.specs.Prelude.{◌≡◌, ℕ, ◌+◌, ◌↔◌, ◌⊎◌, List, length, min, Result, IsErr, OnErr, IfOk}
 use Rattle.tg_io.specs.Faults.{one_more, IsDue}
 
 pub record Store : Type 0 where
@@ -24,8 +24,12 @@ IsRefusing s = IsDue s.failing s.calls ⊎ (s.room ≡ 0)
 abbrev pub taken_count : Store → ℕ → ℕ
 taken_count s len = min s.piece (min len s.room)
 
--- the call is counted, and so are its failure and the room that it took. What was asked of the sink at first stays
-pub record CountsWrite {E : Type 0} (old new : Store) (r : Result ℕ E) : Type 0 where
+-- what a call of `write` does, beside the bytes: it fails exactly where its number stands in `failing` or no room is left,
+-- it takes as many bytes as it can, it is counted, and so are its failure and the room that it took. What was asked of the
+-- sink at first stays
+pub record IsWrite {E : Type 0} (old : Store) (given : List ℕ) (r : Result ℕ E) (new : Store) : Type 0 where
+  pub fails : IsErr r ↔ IsRefusing old
+  pub count : IfOk r (λ n. n ≡ taken_count old (length given))
   pub called : new.calls ≡ one_more old.calls
   pub failed : OnErr r ((new.faults ≡ one_more old.faults) × (new.room ≡ old.room))
   pub filled : IfOk r (λ n. new.room + n ≡ old.room)

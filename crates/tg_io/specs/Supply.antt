@@ -1,6 +1,6 @@
 -- A source in memory, as its callers see it, and what a call does to it.
-use Rattle.std.specs.Prelude.{◌≡◌, ℕ, List, length, min, Result, OnErr}
-use Rattle.tg_io.specs.Faults.{one_more}
+use Rattle.std.specs.Prelude.{◌≡◌, ℕ, ◌↔◌, List, length, min, Result, IsErr, IfOk, OnErr}
+use Rattle.tg_io.specs.Faults.{one_more, IsDue}
 
 pub record Supply : Type 0 where
   -- the bytes not yet given
@@ -18,8 +18,11 @@ pub record Supply : Type 0 where
 abbrev pub given_count : Supply → ℕ → ℕ
 given_count s room = min s.piece (min room (length s.rest))
 
--- the call is counted, and so is its failure. What was asked of the source at first stays
-pub record CountsRead {E : Type 0} (old new : Supply) (r : Result ℕ E) : Type 0 where
+-- what a call of `read` does, beside the bytes: it fails exactly where its number stands in `failing`, it gives as many
+-- bytes as it can, it is counted, and so is its failure. What was asked of the source at first stays
+pub record IsRead {E : Type 0} (old : Supply) (buf : List ℕ) (r : Result ℕ E) (new : Supply) : Type 0 where
+  pub fails : IsErr r ↔ IsDue old.failing old.calls
+  pub count : IfOk r (λ n. n ≡ given_count old (length buf))
   pub called : new.calls ≡ one_more old.calls
   pub failed : OnErr r (new.faults ≡ one_more old.faults)
   pub piece : new.piece ≡ old.piece

@@ -11,6 +11,8 @@ mod faults;
 mod memory;
 mod outside;
 mod standard;
+#[cfg(test)]
+mod tests;
 mod whole;
 
 pub use memory::{MemSink, MemSource};

@@ -3,8 +3,8 @@ ghost use Rattle.std.specs.Prelude.{◌≡◌, ◌≤◌, ◌<◌, ◌↔◌, �
 ghost use Rattle.std.specs.Io.{ReadsAtMost};
 ghost use Rattle.std.specs.Io.KnownBytes.{ReadConsumes, WriteAppends};
 ghost use Rattle.tg_io.specs.Faults.{HasCause, TakesSome, IsDue};
-ghost use Rattle.tg_io.specs.Supply.{given_count, CountsRead};
-ghost use Rattle.tg_io.specs.Store.{IsRefusing, taken_count, CountsWrite};
+ghost use Rattle.tg_io.specs.Supply.{IsRead};
+ghost use Rattle.tg_io.specs.Store.{IsWrite};
 
 use super::faults::{counted, is_due};
 use super::outside::{Failed, Sink, Source};
@@ -57,14 +57,9 @@ impl Source for MemSource {
 
     ghost faults = { λ s. s.faults };
 
-    fn read(&mut self, buf: &mut [u8]) -> Result<usize, Failed>
-        ensures bound { ReadsAtMost result buf.new }
-        ensures bytes { ReadConsumes (Some self.old.rest) (Some self.new.rest) result buf.new }
-        ensures cause { HasCause self.old.faults self.new.faults result }
-        ensures fails { IsErr result ↔ IsDue self.old.failing self.old.calls }
-        ensures count { IfOk result (λ n. n ≡ given_count self.old (length buf.old)) }
-        ensures counts { CountsRead self.old self.new result }
-    {
+    ghost gives = { λ s buf r t. IsRead s buf r t };
+
+    fn read(&mut self, buf: &mut [u8]) -> Result<usize, Failed> {
         let due = is_due(self.failing.as_slice(), self.calls);
         self.calls = counted(self.calls);
         if due {
@@ -150,15 +145,9 @@ impl Sink for MemSink {
 
     ghost faults = { λ s. s.faults };
 
-    fn write(&mut self, piece: &[u8]) -> Result<usize, Failed>
-        requires { 0 < length piece.now }
-        ensures bound { TakesSome result piece.now }
-        ensures bytes { WriteAppends (Some self.old.taken) (Some self.new.taken) result piece.now }
-        ensures cause { HasCause self.old.faults self.new.faults result }
-        ensures fails { IsErr result ↔ IsRefusing self.old }
-        ensures count { IfOk result (λ n. n ≡ taken_count self.old (length piece.now)) }
-        ensures counts { CountsWrite self.old self.new result }
-    {
+    ghost takes = { λ s given r t. IsWrite s given r t };
+
+    fn write(&mut self, piece: &[u8]) -> Result<usize, Failed> {
         let due = is_due(self.failing.as_slice(), self.calls);
         self.calls = counted(self.calls);
         if due || self.room == 0 {

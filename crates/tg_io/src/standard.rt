@@ -40,12 +40,9 @@ impl<R: Read + Drop> Source for StdSource<R> {
 
     ghost faults = { λ s. s };
 
-    fn read(&mut self, buf: &mut [u8]) -> Result<usize, Failed>
-        ensures bound { ReadsAtMost result buf.new }
-        ensures bytes { ReadConsumes None None result buf.new }
-        ensures cause { HasCause self.old self.new result }
-        ensures counts { OnErr result (self.new ≡ one_more self.old) }
-    {
+    ghost gives = { λ s _ r t. OnErr r (t ≡ one_more s) };
+
+    fn read(&mut self, buf: &mut [u8]) -> Result<usize, Failed> {
         match self.inner.read(buf) {
             Ok(count) => Ok(count),
             Err(_) => {
@@ -86,14 +83,10 @@ impl<W: Write + Drop> Sink for StdSink<W> {
 
     ghost faults = { λ s. s };
 
+    ghost takes = { λ s _ r t. OnErr r (t ≡ one_more s) };
+
     // A write that takes nothing is a fault too: a caller that tried again might do so forever.
-    fn write(&mut self, piece: &[u8]) -> Result<usize, Failed>
-        requires { 0 < length piece.now }
-        ensures bound { TakesSome result piece.now }
-        ensures bytes { WriteAppends None None result piece.now }
-        ensures cause { HasCause self.old self.new result }
-        ensures counts { OnErr result (self.new ≡ one_more self.old) }
-    {
+    fn write(&mut self, piece: &[u8]) -> Result<usize, Failed> {
         match self.inner.write(piece) {
             Ok(count) if count > 0 => Ok(count),
             _ => {

@@ -2,7 +2,7 @@
 ghost use Rattle.std.specs.Prelude.{◌≡◌, ℕ, ◌+◌, ◌<◌, ◌≤◌, length, take, vec_len, IfOk, IfErr, OnOk, OnErr, [], MatchResult};
 ghost use Rattle.std.specs.Io.KnownBytes.{Consumes, IsAtEnd, Appends};
 ghost use Rattle.tg_io.specs.Faults.{HasCause};
-ghost use Rattle.tg_io.specs.Whole.{TakesFront, IsCauseOf, written_of};
+ghost use Rattle.tg_io.specs.Whole.{TakesFront, HasReadCause, written_of, ReadsInTurns, WritesInTurns};
 
 use super::outside::{Failed, Sink, Source};
 use std::alloc::Global;
@@ -44,9 +44,8 @@ pub fn read_all<S: Source>(alloc: Global, src: &mut S, max: usize) -> Result<Vec
     ensures end { OnOk result (IsAtEnd (S.left src.new)) }
     ensures within { IfOk result (λ bytes. length bytes.items ≤ max) }
     ensures front { IfErr result (λ e. TakesFront e max (S.left src.old) (S.left src.new)) }
-    ensures quiet { OnOk result (S.faults src.new ≡ S.faults src.old) }
-    ensures cause { IfErr result (λ e. IsCauseOf e (S.faults src.old) (S.faults src.new)) }
-    ensures later { S.faults src.old ≤ S.faults src.new }
+    ensures cause { HasReadCause (S.faults src.old) (S.faults src.new) result }
+    ensures calls { ReadsInTurns S.gives vec_len max src.old result src.new }
 {
     let mut bytes = Vec::new(alloc);
     while bytes.len() <= max {
@@ -77,6 +76,7 @@ pub fn write_all<K: Sink>(sink: &mut K, bytes: &[u8]) -> Result<(), WriteErr>
         Appends (K.written sink.old) (K.written sink.new) (take (written_of e) bytes.now)) }
     ensures part { IfErr result (λ e. written_of e < length bytes.now) }
     ensures cause { HasCause (K.faults sink.old) (K.faults sink.new) result }
+    ensures calls { WritesInTurns K.takes bytes.now sink.old result sink.new }
     ensures idle { bytes.now ≡ [] → sink.new ≡ sink.old }
 {
     let mut written = 0;
