@@ -19,6 +19,7 @@ pub record HasCause {T E : Type 0} (before after : ℕ) (r : Result T E) : Type 
 abbrev pub TakesSome : {E : Type 0} → Result ℕ E → List ℕ → Type 0
 TakesSome r piece = IfOk r (λ n. (1 ≤ n) × (n ≤ length piece))
 
--- the next call's number, which is one more than the calls so far, stands in `failing`
+-- the next call's number, one more than the calls so far, stands in `failing`, whose numbers are
+-- those of a `u64`: a later call's number, to which the count does not go, stands nowhere
 abbrev pub IsDue : List ℕ → ℕ → Type 0
 IsDue failing calls = (calls + 1 < 2 ^ 64) × Contains failing (calls + 1)

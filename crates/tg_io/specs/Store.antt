@@ -1,5 +1,5 @@
 -- A sink in memory, as its callers see it, and what a call does to it.
-use Rattle.std.specs.Prelude.{◌≡◌, ℕ, ◌+◌, ◌↔◌, ◌⊎◌, List, length, min, Result, IsErr, OnErr, IfOk}
+use Rattle.std.specs.Prelude.{◌≡◌, ℕ, ◌+◌, ◌↔◌, ◌⊎◌, List, [], length, min, Result, IsErr, OnErr, IfOk}
 use Rattle.tg_io.specs.Faults.{one_more, IsDue}
 
 pub record Store : Type 0 where
@@ -16,6 +16,10 @@ pub record Store : Type 0 where
   -- the failures so far
   pub faults : ℕ
 
+-- a sink that was not called yet
+abbrev pub new_store : ℕ → ℕ → List ℕ → Store
+new_store room piece failing = record { taken = []; room = room; piece = piece; failing = failing; calls = 0; faults = 0 }
+
 -- the next call fails: its number stands in `failing`, or no room is left
 abbrev pub IsRefusing : Store → Type 0
 IsRefusing s = IsDue s.failing s.calls ⊎ (s.room ≡ 0)
@@ -24,9 +28,9 @@ IsRefusing s = IsDue s.failing s.calls ⊎ (s.room ≡ 0)
 abbrev pub taken_count : Store → ℕ → ℕ
 taken_count s len = min s.piece (min len s.room)
 
--- what a call of `write` does, beside the bytes: it fails exactly where its number stands in `failing` or no room is left,
--- it takes as many bytes as it can, it is counted, and so are its failure and the room that it took. What was asked of the
--- sink at first stays
+-- what a call of `write` does, beside the bytes: it fails exactly where its number stands in
+-- `failing` or no room is left, it takes as many bytes as it can, it is counted, and so are its
+-- failure and the room that it took. What was asked of the sink at first stays
 pub record IsWrite {E : Type 0} (old : Store) (given : List ℕ) (r : Result ℕ E) (new : Store) : Type 0 where
   pub fails : IsErr r ↔ IsRefusing old
   pub count : IfOk r (λ n. n ≡ taken_count old (length given))

@@ -14,12 +14,17 @@ pub record Supply : Type 0 where
   -- the failures so far
   pub faults : ℕ
 
+-- a source that was not called yet
+abbrev pub new_supply : List ℕ → ℕ → List ℕ → Supply
+new_supply bytes piece failing = record { rest = bytes; piece = piece; failing = failing; calls = 0; faults = 0 }
+
 -- how many bytes a call that does not fail gives into a buffer of this length
 abbrev pub given_count : Supply → ℕ → ℕ
 given_count s room = min s.piece (min room (length s.rest))
 
--- what a call of `read` does, beside the bytes: it fails exactly where its number stands in `failing`, it gives as many
--- bytes as it can, it is counted, and so is its failure. What was asked of the source at first stays
+-- what a call of `read` does, beside the bytes: it fails exactly where its number stands in
+-- `failing`, it gives as many bytes as it can, it is counted, and so is its failure. What was asked
+-- of the source at first stays
 pub record IsRead {E : Type 0} (old : Supply) (buf : List ℕ) (r : Result ℕ E) (new : Supply) : Type 0 where
   pub fails : IsErr r ↔ IsDue old.failing old.calls
   pub count : IfOk r (λ n. n ≡ given_count old (length buf))

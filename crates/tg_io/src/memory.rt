@@ -1,10 +1,7 @@
 //! A source and a sink in memory, of which every byte and every failure is known.
-ghost use Rattle.std.specs.Prelude.{◌≡◌, ◌≤◌, ◌<◌, ◌↔◌, ◌++◌, [], length, min, take, drop, IsErr, IfOk, Some};
-ghost use Rattle.std.specs.Io.{ReadsAtMost};
-ghost use Rattle.std.specs.Io.KnownBytes.{ReadConsumes, WriteAppends};
-ghost use Rattle.tg_io.specs.Faults.{HasCause, TakesSome, IsDue};
-ghost use Rattle.tg_io.specs.Supply.{IsRead};
-ghost use Rattle.tg_io.specs.Store.{IsWrite};
+ghost use Rattle.std.specs.Prelude.{◌≡◌, ◌≤◌, min, take, length, IfOk, Some};
+ghost use Rattle.tg_io.specs.Supply.{new_supply, IsRead};
+ghost use Rattle.tg_io.specs.Store.{new_store, IsWrite};
 
 use super::faults::{counted, is_due};
 use super::outside::{Failed, Sink, Source};
@@ -28,7 +25,13 @@ impl Model for MemSource {
 
     ghost Value = { Supply };
 
-    ghost view = { λ s. record { rest = drop s.at s.bytes.items; piece = s.piece; failing = s.failing.items; calls = s.calls; faults = s.faults } };
+    ghost view = { λ s. record {
+      rest = drop s.at s.bytes.items;
+      piece = s.piece;
+      failing = s.failing.items;
+      calls = s.calls;
+      faults = s.faults;
+    } };
 
     ghost invariant = { λ s. (s.at ≤ length s.bytes.items) × (1 ≤ s.piece) };
 }
@@ -38,8 +41,7 @@ impl MemSource {
     /// numbers stand in `failing` fail; the first call's number is 1.
     pub fn new(bytes: Vec<u8>, piece: usize, failing: Vec<u64>) -> MemSource
         requires { 1 ≤ piece }
-        ensures { result
-            ≡ record { rest = bytes.items; piece = piece; failing = failing.items; calls = 0; faults = 0 } }
+        ensures { result ≡ new_supply bytes.items piece failing.items }
     {
         MemSource {
             bytes,
@@ -100,7 +102,14 @@ impl Model for MemSink {
 
     ghost Value = { Store };
 
-    ghost view = { λ s. record { taken = s.bytes.items; room = s.room; piece = s.piece; failing = s.failing.items; calls = s.calls; faults = s.faults } };
+    ghost view = { λ s. record {
+      taken = s.bytes.items;
+      room = s.room;
+      piece = s.piece;
+      failing = s.failing.items;
+      calls = s.calls;
+      faults = s.faults;
+    } };
 
     ghost invariant = { λ s. (vec_len s.bytes + s.room ≤ vec_capacity s.bytes) × (1 ≤ s.piece) };
 }
@@ -118,8 +127,7 @@ impl MemSink {
         failing: Vec<u64>,
     ) -> Result<MemSink, AllocError>
         requires { 1 ≤ piece }
-        ensures { IfOk result (λ sink. sink
-            ≡ record { taken = []; room = room; piece = piece; failing = failing.items; calls = 0; faults = 0 }) }
+        ensures { IfOk result (λ sink. sink ≡ new_store room piece failing.items) }
     {
         let bytes = Vec::with_capacity(alloc, room)?;
         Ok(MemSink {

@@ -1,17 +1,15 @@
 //! A source and a sink over std's readers and writers: the edge that is trusted, of which no byte
 //! is known.
-ghost use Rattle.std.specs.Prelude.{◌≡◌, ◌<◌, length, None, OnErr};
-ghost use Rattle.std.specs.Io.{ReadsAtMost};
-ghost use Rattle.std.specs.Io.KnownBytes.{ReadConsumes, WriteAppends};
-ghost use Rattle.tg_io.specs.Faults.{HasCause, TakesSome, one_more};
+ghost use Rattle.std.specs.Prelude.{◌≡◌, None, OnErr};
+ghost use Rattle.tg_io.specs.Faults.{one_more};
 
 use super::faults::counted;
 use super::outside::{Failed, Sink, Source};
 use std::io::{Read, Write};
 use std::marker::Model;
 
-/// A source over a reader of std's, such as standard input. A contract sees the number of its
-/// faults so far, and no byte.
+/// A source over a reader of std's, such as standard input. A contract sees it as the number of its
+/// faults so far, and learns no byte. Each error of the reader is a fault.
 #[derive(Drop)]
 pub struct StdSource<R> {
     inner: R,
@@ -53,8 +51,9 @@ impl<R: Read + Drop> Source for StdSource<R> {
     }
 }
 
-/// A sink over a writer of std's, such as standard output. A contract sees the number of its
-/// faults so far, and no byte.
+/// A sink over a writer of std's, such as standard output. A contract sees it as the number of its
+/// faults so far, and learns no byte. Each error of the writer is a fault, and so is a write that
+/// takes no byte.
 #[derive(Drop)]
 pub struct StdSink<W> {
     inner: W,
@@ -85,7 +84,7 @@ impl<W: Write + Drop> Sink for StdSink<W> {
 
     ghost takes = { λ s _ r t. OnErr r (t ≡ one_more s) };
 
-    // A write that takes nothing is a fault too: a caller that tried again might do so forever.
+    // To take nothing is a fault, since a caller that tried again might do so forever.
     fn write(&mut self, piece: &[u8]) -> Result<usize, Failed> {
         match self.inner.write(piece) {
             Ok(count) if count > 0 => Ok(count),

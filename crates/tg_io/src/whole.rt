@@ -1,8 +1,9 @@
 //! Reading all that a source has left, and writing all of a text.
-ghost use Rattle.std.specs.Prelude.{◌≡◌, ℕ, ◌+◌, ◌<◌, ◌≤◌, length, take, vec_len, IfOk, IfErr, OnOk, OnErr, [], MatchResult};
+ghost use Rattle.std.specs.Prelude.{◌≡◌, ◌<◌, ◌≤◌, [], length, take, vec_len, IfOk, IfErr, OnOk};
 ghost use Rattle.std.specs.Io.KnownBytes.{Consumes, IsAtEnd, Appends};
 ghost use Rattle.tg_io.specs.Faults.{HasCause};
-ghost use Rattle.tg_io.specs.Whole.{TakesFront, HasReadCause, written_of, ReadsInTurns, WritesInTurns};
+ghost use Rattle.tg_io.specs.Whole.{TakesFront, HasReadCause, ReadsInTurns};
+ghost use Rattle.tg_io.specs.Whole.{written_of, WritesInTurns};
 
 use super::outside::{Failed, Sink, Source};
 use std::alloc::Global;
@@ -27,7 +28,10 @@ pub enum ReadErr {
 pub enum WriteErr {
     /// The sink failed, and counted it, after it took the first `written` bytes.
     #[error("writing failed after {written} bytes")]
-    Fault { written: u64 },
+    Fault {
+        /// How many bytes the sink took, fewer than all.
+        written: u64,
+    },
 }
 
 // The most bytes that are asked for at once: the buffer lies on the stack.
@@ -37,7 +41,9 @@ const CHUNK: usize = 4096;
 ///
 /// `TooLong` comes exactly where more than `max` bytes came, which takes one byte past `max` to
 /// see. `Fault` comes only where the source's count of faults rose in this call. At an error the
-/// bytes that were taken are gone. Memory is asked for before bytes are taken.
+/// bytes that were taken are gone. `Memory` comes before the bytes that it was wanted for are
+/// taken. Each call of the source gives at least one byte, but for a last one that gives none or
+/// fails.
 pub fn read_all<S: Source>(alloc: Global, src: &mut S, max: usize) -> Result<Vec<u8>, ReadErr>
     requires { max < usize.MAX }
     ensures whole { IfOk result (λ bytes. Consumes (S.left src.old) (S.left src.new) bytes.items) }
@@ -68,8 +74,9 @@ pub fn read_all<S: Source>(alloc: Global, src: &mut S, max: usize) -> Result<Vec
 
 /// Writes all of `bytes`, and takes no memory.
 ///
-/// Each call of the sink is given all the bytes that are left. `Fault` comes only where the sink's
-/// count of faults rose in this call, and then exactly the first `written` bytes were appended.
+/// Each call of the sink is given all the bytes that are left, and with no byte there is no call.
+/// `Fault` comes only where the sink's count of faults rose in this call, and then exactly the
+/// first `written` bytes were appended.
 pub fn write_all<K: Sink>(sink: &mut K, bytes: &[u8]) -> Result<(), WriteErr>
     ensures whole { OnOk result (Appends (K.written sink.old) (K.written sink.new) bytes.now) }
     ensures front { IfErr result (λ e.
