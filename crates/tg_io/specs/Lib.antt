@@ -1,0 +1,5 @@
+pub mod Faults
+pub mod Supply
+pub mod Store
+pub mod Turns
+pub mod Whole
