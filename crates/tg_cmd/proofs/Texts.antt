@@ -30,8 +30,8 @@ class_by n p v LessEqual l LessEqual = refl
 pub class_opened : (f : Form) → class_parts (codes "0") (codes "1") f.program (sign f.constraint) f.limit (sign f.check) ≡ class_text f
 class_opened f =
     ap (λ d. class_parts d (codes "1") f.program (sign f.constraint) f.limit (sign f.check)) (sym zero_text)
-      ∙ ap (λ d. class_parts (decimal 0) d f.program (sign f.constraint) f.limit (sign f.check)) (sym one_text)
-      ∙ class_by f.name f.program f.variable f.constraint f.limit f.check
+    ∙ ap (λ d. class_parts (decimal 0) d f.program (sign f.constraint) f.limit (sign f.check)) (sym one_text)
+    ∙ class_by f.name f.program f.variable f.constraint f.limit f.check
 
 abbrev pub test_parts : List ℕ → List ℕ → List ℕ → List ℕ → ℕ → List ℕ → List ℕ
 test_parts zero one p c l k = codes "datum 0\ntheorem\ntest 1 ((tested " ++ (zero ++ (codes ") & [(" ++ (zero ++ (codes " " ++ (k ++ (codes " (" ++ (p ++ (codes " " ++ (zero ++ (codes "))])\nuniformity 1 (THYP ((EX nat. ((tested !" ++ (one ++ (codes ") & ([(!" ++ (one ++ (codes " " ++ (c ++ (codes " " ++ (decimal l ++ (codes ")] & [(!" ++ (one ++ (codes " " ++ (k ++ (codes " (" ++ (p ++ (codes " !" ++ (one ++ (codes "))]))) --> (ALL nat. ((tested !" ++ (one ++ (codes ") --> ([(!" ++ (one ++ (codes " " ++ (c ++ (codes " " ++ (decimal l ++ (codes ")] --> [(!" ++ (one ++ (codes " " ++ (k ++ (codes " (" ++ (p ++ (codes " !" ++ (one ++ (codes "))])))))\n"))))))))))))))))))))))))))))))))))))))))))
@@ -47,8 +47,8 @@ test_by n p v LessEqual l LessEqual = refl
 pub test_opened : (f : Form) → test_parts (codes "0") (codes "1") f.program (sign f.constraint) f.limit (sign f.check) ≡ test_text f
 test_opened f =
     ap (λ d. test_parts d (codes "1") f.program (sign f.constraint) f.limit (sign f.check)) (sym zero_text)
-      ∙ ap (λ d. test_parts (decimal 0) d f.program (sign f.constraint) f.limit (sign f.check)) (sym one_text)
-      ∙ test_by f.name f.program f.variable f.constraint f.limit f.check
+    ∙ ap (λ d. test_parts (decimal 0) d f.program (sign f.constraint) f.limit (sign f.check)) (sym one_text)
+    ∙ test_by f.name f.program f.variable f.constraint f.limit f.check
 
 abbrev pub open_parts : List ℕ → List ℕ → List ℕ → List ℕ → ℕ → List ℕ → List ℕ
 open_parts zero one p c l k = codes "open\ntheorem\nopen 1 (ALL nat. ((tested !" ++ (one ++ (codes ") --> ([(!" ++ (one ++ (codes " " ++ (c ++ (codes " " ++ (decimal l ++ (codes ")] --> [(!" ++ (one ++ (codes " " ++ (k ++ (codes " (" ++ (p ++ (codes " !" ++ (one ++ (codes "))])))\n"))))))))))))))))
@@ -64,8 +64,8 @@ open_by n p v LessEqual l LessEqual = refl
 pub open_opened : (f : Form) → open_parts (codes "0") (codes "1") f.program (sign f.constraint) f.limit (sign f.check) ≡ open_text f
 open_opened f =
     ap (λ d. open_parts d (codes "1") f.program (sign f.constraint) f.limit (sign f.check)) (sym zero_text)
-      ∙ ap (λ d. open_parts (decimal 0) d f.program (sign f.constraint) f.limit (sign f.check)) (sym one_text)
-      ∙ open_by f.name f.program f.variable f.constraint f.limit f.check
+    ∙ ap (λ d. open_parts (decimal 0) d f.program (sign f.constraint) f.limit (sign f.check)) (sym one_text)
+    ∙ open_by f.name f.program f.variable f.constraint f.limit f.check
 
 abbrev pub conclusion_parts : List ℕ → List ℕ → List ℕ → List ℕ → ℕ → List ℕ → List ℕ
 conclusion_parts zero one p c l k = codes "conclusion (ALL nat. ((tested !" ++ (one ++ (codes ") --> [((!" ++ (one ++ (codes " " ++ (c ++ (codes " " ++ (decimal l ++ (codes ") --> (!" ++ (one ++ (codes " " ++ (k ++ (codes " (" ++ (p ++ (codes " !" ++ (one ++ (codes ")))]))\n"))))))))))))))))
@@ -81,17 +81,17 @@ conclusion_by n p v LessEqual l LessEqual = refl
 pub conclusion_opened : (f : Form) → conclusion_parts (codes "0") (codes "1") f.program (sign f.constraint) f.limit (sign f.check) ≡ conclusion_text f
 conclusion_opened f =
     ap (λ d. conclusion_parts d (codes "1") f.program (sign f.constraint) f.limit (sign f.check)) (sym zero_text)
-      ∙ ap (λ d. conclusion_parts (decimal 0) d f.program (sign f.constraint) f.limit (sign f.check)) (sym one_text)
-      ∙ conclusion_by f.name f.program f.variable f.constraint f.limit f.check
+    ∙ ap (λ d. conclusion_parts (decimal 0) d f.program (sign f.constraint) f.limit (sign f.check)) (sym one_text)
+    ∙ conclusion_by f.name f.program f.variable f.constraint f.limit f.check
 
 abbrev pub head_parts : List ℕ → ℕ → ℕ → ℕ → ℕ → ℕ → List ℕ
 head_parts name depth bound seed tries width =
     codes "testgen " ++ (name ++ (codes "\nsettings depth " ++ (decimal depth ++ (codes " bound " ++ (decimal bound ++ (codes " seed " ++ (decimal seed
-      ++ (codes " tries " ++ (decimal tries ++ (codes " width " ++ (decimal width ++ codes "\n")))))))))))
+    ++ (codes " tries " ++ (decimal tries ++ (codes " width " ++ (decimal width ++ codes "\n")))))))))))
 
 pub head_opened : (f : Form) (depth bound tries width : ℕ) → depth ≡ 3 → bound ≡ 8 → tries ≡ 1000 → width ≡ 16
     → head_parts f.name depth bound 1 tries width ≡ head_text f
 unfolding head_text
 head_opened f depth bound tries width d b t w =
     ap (λ n. head_parts f.name n bound 1 tries width) d ∙ ap (λ n. head_parts f.name 3 n 1 tries width) b
-      ∙ ap (λ n. head_parts f.name 3 8 1 n width) t ∙ ap (λ n. head_parts f.name 3 8 1 1000 n) w
+    ∙ ap (λ n. head_parts f.name 3 8 1 n width) t ∙ ap (λ n. head_parts f.name 3 8 1 1000 n) w

@@ -1,4 +1,6 @@
+pub mod Answers
 pub mod Form
+pub mod Output
 pub mod Parts
 pub mod Pieces
 pub mod Report

@@ -14,7 +14,7 @@ lines (line ∷ rest) = line (codes "\n" ++ lines rest)
 
 abbrev pub settings : Settings → Shown
 settings s = chain (written (codes "depth ") ∷ number s.depth ∷ written (codes " bound ") ∷ number s.bound ∷ written (codes " seed ") ∷ number s.seed
-  ∷ written (codes " tries ") ∷ number s.tries ∷ written (codes " width ") ∷ number s.width ∷ [])
+    ∷ written (codes " tries ") ∷ number s.tries ∷ written (codes " width ") ∷ number s.width ∷ [])
 
 abbrev pub default_settings : Settings
 default_settings = record { depth = 3; bound = 8; seed = 1; tries = 1000; width = 16 }
@@ -33,18 +33,18 @@ head_text f =
 -- the one class; its pattern is a variable
 unfoldable pub class_text : Form → List ℕ
 class_text f = lines (written (codes "class 1")
-  ∷ term_line (codes "pattern") f (free 1)
-  ∷ term_line (codes "constraint") f (constraint_at f (free 1))
-  ∷ term_line (codes "check") f (check_at f (free 1))
-  ∷ [])
+    ∷ term_line (codes "pattern") f (free 1)
+    ∷ term_line (codes "constraint") f (constraint_at f (free 1))
+    ∷ term_line (codes "check") f (check_at f (free 1))
+    ∷ [])
 
 -- a class with a datum is tested
 unfoldable pub test_text : Form → List ℕ
 test_text f = lines (written (codes "datum 0")
-  ∷ written (codes "theorem")
-  ∷ formula_line (codes "test 1") f (test_of f)
-  ∷ formula_line (codes "uniformity 1") f (uniformity_of f)
-  ∷ [])
+    ∷ written (codes "theorem")
+    ∷ formula_line (codes "test 1") f (test_of f)
+    ∷ formula_line (codes "uniformity 1") f (uniformity_of f)
+    ∷ [])
 
 unfoldable pub open_text : Form → List ℕ
 open_text f = lines (written (codes "open") ∷ written (codes "theorem") ∷ formula_line (codes "open 1") f (open_class_of f) ∷ [])

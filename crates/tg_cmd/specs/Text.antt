@@ -106,7 +106,7 @@ module _ (th : Theory) where
         chain (written (codes "(case ") ∷ term level t ∷ written (codes " of {") ∷ listed (branches level d 0 arms) ∷ written (codes "})") ∷ [])
     term level (bind t body) =
         chain (written (codes "(let ") ∷ binder (level + 1) ∷ written (codes " = ") ∷ term level t ∷ written (codes " in ")
-          ∷ term (level + 1) body ∷ written (codes ")") ∷ [])
+        ∷ term (level + 1) body ∷ written (codes ")") ∷ [])
     term level (op o ts) = operation o (terms level ts)
 
     pub terms : ℕ → Trees → List Shown
@@ -118,7 +118,7 @@ module _ (th : Theory) where
     branches level d k end = []
     branches level d k (arm n body arms) =
         chain (written (branch_name th d k) ∷ spaced (binders level n) ∷ written (codes " => ") ∷ term (level + n) body ∷ [])
-          ∷ branches level d (suc k) arms
+        ∷ branches level d (suc k) arms
 
   -- a closed type
   abbrev mutual
@@ -132,7 +132,7 @@ module _ (th : Theory) where
         chain (written (codes "(") ∷ type_of t ∷ written (codes " ") ∷ written (datatype_name th d) ∷ written (codes ")") ∷ [])
     type_of (applied d (types.more t (types.more u us))) =
         chain (written (codes "((") ∷ listed (type_of t ∷ type_of u ∷ types_of us) ∷ written (codes ") ") ∷ written (datatype_name th d)
-          ∷ written (codes ")") ∷ [])
+        ∷ written (codes ")") ∷ [])
 
     pub types_of : Tys → List Shown
     types_of types.none = []

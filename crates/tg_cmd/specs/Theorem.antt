@@ -46,7 +46,7 @@ open_class_of f =
 abbrev pub uniformity_of : Form → Formula
 uniformity_of f =
     thyp (implies (some nat (both (tested (one (bound 0))) (both (atom (constraint_at f (bound 0))) (atom (check_at f (bound 0))))))
-      (open_class_of f))
+    (open_class_of f))
 
 -- The specification at every tested input
 abbrev pub conclusion_of : Form → Formula

@@ -9,6 +9,6 @@ pub returns : goal.returns
 returns c =
     let f = c.args.form.now in
     let text = ap (λ s. class_parts (codes "0") (codes "1") f.program.now s f.limit c.sign-check.result.now) c.sign-constraint.ensures
-        ∙ ap (λ s. class_parts (codes "0") (codes "1") f.program.now (sign f.constraint) f.limit s) c.sign-check.ensures
-        ∙ class_opened (form_view f) in
+    ∙ ap (λ s. class_parts (codes "0") (codes "1") f.program.now (sign f.constraint) f.limit s) c.sign-check.ensures
+    ∙ class_opened (form_view f) in
     subst (λ (t : List ℕ). OnOk c.put.result (c.put.new.out.items ≡ c.args.out.now.items ++ t)) text c.put.ensures.whole
