@@ -1,11 +1,15 @@
 -- The readers give the parts exactly where the pieces are their spelling.
-use Rattle.std.proofs.Common.{ℕ, ◌≡◌, Bool, true, false, List, [], ◌∷◌, Option, Some, None, MatchOption, refl, sym, ◌∙◌, ap, if◌then◌else◌, rules}
-use Rattle.std.specs.Prelude.{codes}
+use Rattle.std.proofs.Common.{ℕ, ◌≡◌, ◌<◌, ◌^◌, arith, Bool, true, false, List, [], ◌∷◌, Option, Some, None, MatchOption, refl, sym, ◌∙◌, ap, if◌then◌else◌, rules}
+use Rattle.std.specs.Prelude.{codes, decimal}
+use Rattle.std.specs.Str.Parse.{digits_value}
+use Rattle.std.proofs.lemmas.Fmt.{decimal_is_IsNumeral}
+use Rattle.tg_cmd.specs.declared.form.Relation.{Relation}
+use Rattle.tg_cmd.specs.declared.form.Relation.TheVariants.{Less, LessEqual}
 use Rattle.std.specs.Str.{bytes_eq}
 use Rattle.std.proofs.lemmas.Slice.Eq.{bytes_eq-Decides}
 use Rattle.tg_cmd.specs.declared.form.Form as code
 use Rattle.tg_cmd.specs.Pieces.{pieces, after, first_piece, at_end, ◌>>=◌}
-use Rattle.tg_cmd.specs.Form.{Form, Premise, Conclusion, Parts, parts, spelling, Reads, HasParts, header_of, program_of, premise_of, conclusion_of, parts_of}
+use Rattle.tg_cmd.specs.Form.{sign, OneReading, Form, Premise, Conclusion, Parts, parts, spelling, Reads, HasParts, header_of, program_of, premise_of, conclusion_of, parts_of}
 use Rattle.tg_cmd.specs.Parts.{form_view}
 
 bind_some : {A B : Type 0} (o : Option A) (k : A → Option B) (y : B) → (o >>= k) ≡ Some y → (x : A) × (o ≡ Some x) × (k x ≡ Some y)
@@ -146,3 +150,30 @@ reads_parts bytes q e (Some f) h = record { form = h.form; spelled = parts_some 
 
 pub reads_none : (bytes : List ℕ) → parts_of (pieces bytes) ≡ None → (f : Form) → Reads bytes f → ⊥
 reads_none bytes e f r = let t : None ≡ Some (parts f) = sym e ∙ ap parts_of r.spelled ∙ parts_spelled (parts f) in cc
+
+sign_one : (r s : Relation) → sign r ≡ sign s → r ≡ s
+sign_one Less Less e = refl
+sign_one Less LessEqual e = cc
+sign_one LessEqual Less e = cc
+sign_one LessEqual LessEqual e = refl
+
+decimal_one : (m n : ℕ) → m < 10 ^ 18 → n < 10 ^ 18 → decimal m ≡ decimal n → m ≡ n
+decimal_one m n low high e =
+    let p : m < 2 ^ 64 = omega arith in
+    let q : n < 2 ^ 64 = omega arith in
+    sym (decimal_is_IsNumeral m p).1 ∙ (ap (digits_value 10) e ∙ (decimal_is_IsNumeral n q).1)
+
+fields_one : (f g : Form) → f.name ≡ g.name → f.program ≡ g.program → f.variable ≡ g.variable → f.constraint ≡ g.constraint
+    → f.limit ≡ g.limit → f.check ≡ g.check → f ≡ g
+fields_one f g a b d e l k =
+    λ i. record { name = a i; program = b i; variable = d i; constraint = e i; limit = l i; check = k i }
+
+pub one_reading : OneReading
+one_reading bytes f g r s =
+    let same : Some (parts f) ≡ Some (parts g) =
+    sym (parts_spelled (parts f)) ∙ ap parts_of (sym r.spelled ∙ s.spelled) ∙ parts_spelled (parts g) in
+    let e : parts f ≡ parts g = cc same in
+    fields_one f g (ap (λ (p : Parts). p.name) e) (ap (λ (p : Parts). p.program) e) (ap (λ (p : Parts). p.premise.variable) e)
+    (sign_one f.constraint g.constraint (ap (λ (p : Parts). p.premise.constraint) e))
+    (decimal_one f.limit g.limit r.form.limit s.form.limit (ap (λ (p : Parts). p.premise.limit) e))
+    (sign_one f.check g.check (ap (λ (p : Parts). p.conclusion.check) e))

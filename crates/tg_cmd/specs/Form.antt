@@ -135,3 +135,7 @@ pub record Repeats (p : Parts) : Type 0 where
 pub record HasParts (p : Parts) (f : Form) : Type 0 where
   pub form : IsForm f
   pub parts : p ≡ parts f
+
+-- A text reads as one form at the most.
+abbrev pub OneReading : Type 0
+OneReading = (bytes : List ℕ) (f g : Form) → Reads bytes f → Reads bytes g → f ≡ g

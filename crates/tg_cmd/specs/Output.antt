@@ -20,11 +20,12 @@ generate_words = codes "generate" ∷ []
 abbrev pub longest : ℕ
 longest = 1000
 
--- the text is the report of the form that the input reads as, and the theorem that it prints is true
+-- the text is the report of the one form that the input reads as, and the theorem that it prints is true
 pub record IsReport (input text : List ℕ) : Type 0 where
   pub form : Form
   pub short : length input ≤ longest
   pub reads : Reads input form
+  pub only : (f : Form) → Reads input f → f ≡ form
   pub printed : text ≡ report form
   pub theorem : IsTrueTheorem form
 

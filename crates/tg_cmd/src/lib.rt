@@ -9,6 +9,8 @@ mod form;
 mod output;
 mod pieces;
 mod report;
+#[cfg(test)]
+mod tests;
 mod top;
 mod words;
 

@@ -1,0 +1,138 @@
+use crate::{Answer, Refusal, run};
+use std::alloc::{AllocError, Global};
+use std::test::Fail;
+use tg_io::{MemSink, MemSource};
+use tg_types::Name;
+
+const INC: &[u8] =
+    b"theory Inc version 1 begin program put :: nat => nat; spec x . x < 3 --> x < put x; end";
+
+/// The run of one word on an input, with the calls of the source and of the sink that fail. The source
+/// gives at most 7 bytes a call, and the sink takes at most 10.
+fn run_failing(
+    alloc: Global,
+    word: &[u8],
+    input: &[u8],
+    reads: Vec<u64>,
+    writes: Vec<u64>,
+) -> Result<(Answer, MemSink), AllocError> {
+    let words = vec![in alloc; Name::new(alloc, word)?]?;
+    let mut source = MemSource::new(Vec::from_slice(alloc, input)?, 7, reads);
+    let mut sink = MemSink::new(alloc, 4096, 10, writes)?;
+    let answer = run(alloc, words.as_slice(), &mut source, &mut sink);
+    Ok((answer, sink))
+}
+
+fn run_whole(alloc: Global, word: &[u8], input: &[u8]) -> Result<(Answer, MemSink), AllocError> {
+    run_failing(alloc, word, input, Vec::new(alloc), Vec::new(alloc))
+}
+
+#[test]
+fn a_class_with_a_datum_is_tested(rt: HostRuntime) -> Result<(), Fail> {
+    let (answer, sink) = run_whole(rt.alloc(), b"generate", INC)?;
+    assert_eq!(rt; answer, Answer::Done);
+    assert_eq!(rt; answer.status(), 0);
+    assert_eq!(rt;
+        sink.bytes(),
+        b"testgen Inc
+settings depth 3 bound 8 seed 1 tries 1000 width 16
+class 1
+pattern ?1
+constraint (?1 < 3)
+check (?1 < (put ?1))
+datum 0
+theorem
+test 1 ((tested 0) & [(0 < (put 0))])
+uniformity 1 (THYP ((EX nat. ((tested !1) & ([(!1 < 3)] & [(!1 < (put !1))]))) --> (ALL nat. ((tested !1) --> ([(!1 < 3)] --> [(!1 < (put !1))])))))
+conclusion (ALL nat. ((tested !1) --> [((!1 < 3) --> (!1 < (put !1)))]))
+classes 1 tests 1 open 0
+"
+            .as_slice()
+    );
+    Ok(())
+}
+
+#[test]
+fn a_class_without_a_datum_stays_open(rt: HostRuntime) -> Result<(), Fail> {
+    let input =
+        b"theory Inc version 1 begin program put :: nat => nat; spec x . x < 0 --> x < put x; end";
+    let (answer, sink) = run_whole(rt.alloc(), b"generate", input)?;
+    assert_eq!(rt; answer, Answer::Done);
+    assert_eq!(rt;
+        sink.bytes(),
+        b"testgen Inc
+settings depth 3 bound 8 seed 1 tries 1000 width 16
+class 1
+pattern ?1
+constraint (?1 < 0)
+check (?1 < (put ?1))
+open
+theorem
+open 1 (ALL nat. ((tested !1) --> ([(!1 < 0)] --> [(!1 < (put !1))])))
+conclusion (ALL nat. ((tested !1) --> [((!1 < 0) --> (!1 < (put !1)))]))
+classes 1 tests 0 open 1
+"
+            .as_slice()
+    );
+    Ok(())
+}
+
+#[test]
+fn other_input_is_refused_with_one_line(rt: HostRuntime) -> Result<(), Fail> {
+    let inputs: [&[u8]; 7] = [
+        b"",
+        &INC[..71],
+        b"theory Inc version 1 begin program put :: nat => nat; spec x . x < 3 --> x < put x; end\0",
+        b"theory theory version 1 begin program put :: nat => nat; spec x . x < 3 --> x < put x; end",
+        b"theory Inc version 1 begin program x :: nat => nat; spec x . x < 3 --> x < x x; end",
+        b"theory Inc version 1 begin program put :: nat => nat; spec x . x < 1000000000000000000 --> x < put x; end",
+        b"theory Inc version 1 begin program put :: nat => nat; spec x . x < 03 --> x < put x; end",
+    ];
+    for input in inputs {
+        let (answer, sink) = run_whole(rt.alloc(), b"generate", input)?;
+        assert_eq!(rt; answer, Answer::Refused(Refusal::Early));
+        assert_eq!(rt; answer.status(), 6);
+        assert_eq!(rt; sink.bytes(), b"refused early\n".as_slice());
+    }
+    Ok(())
+}
+
+#[test]
+fn an_input_of_1000_bytes_is_read_and_a_longer_one_refused(rt: HostRuntime) -> Result<(), Fail> {
+    let mut input = Vec::from_slice(rt.alloc(), INC)?;
+    for _ in INC.len()..1000 {
+        input.push(b' ')?;
+    }
+    let (answer, _) = run_whole(rt.alloc(), b"generate", input.as_slice())?;
+    assert_eq!(rt; answer, Answer::Done);
+    input.push(b'\n')?;
+    let (answer, sink) = run_whole(rt.alloc(), b"generate", input.as_slice())?;
+    assert_eq!(rt; answer, Answer::Refused(Refusal::Early));
+    assert_eq!(rt; sink.bytes(), b"refused early\n".as_slice());
+    Ok(())
+}
+
+#[test]
+fn faults_are_answered_as_such(rt: HostRuntime) -> Result<(), Fail> {
+    let first = vec![in rt.alloc(); 1]?;
+    let (answer, sink) = run_failing(rt.alloc(), b"generate", INC, first, Vec::new(rt.alloc()))?;
+    assert_eq!(rt; answer, Answer::ReadFault);
+    assert_eq!(rt; answer.status(), 3);
+    assert_eq!(rt; sink.bytes(), b"".as_slice());
+    let second = vec![in rt.alloc(); 2]?;
+    let (answer, sink) = run_failing(rt.alloc(), b"generate", INC, Vec::new(rt.alloc()), second)?;
+    assert_eq!(rt; answer, Answer::WriteFault { written: 10 });
+    assert_eq!(rt; answer.status(), 4);
+    assert_eq!(rt; sink.bytes(), b"testgen In".as_slice());
+    Ok(())
+}
+
+#[test]
+fn other_words_are_no_command(rt: HostRuntime) -> Result<(), Fail> {
+    let (answer, sink) = run_whole(rt.alloc(), b"judge", INC)?;
+    assert_eq!(rt; answer, Answer::Usage);
+    assert_eq!(rt; answer.status(), 2);
+    assert_eq!(rt; sink.bytes(), b"".as_slice());
+    assert_eq!(rt; Answer::Memory.status(), 5);
+    Ok(())
+}
