@@ -7,4 +7,6 @@ pub mod Typing
 pub mod Table
 pub mod Denotation
 pub mod Truth
+pub mod Uses
+pub mod Walk
 pub mod Laws
