@@ -1,7 +1,10 @@
 pub mod Freshness
+pub mod Instances
 pub mod KnownValues
+pub mod Numbering
 pub mod Places
 pub mod Recursion
 pub mod SameValue
 pub mod Substitutions
+pub mod ValueTyping
 pub mod Walks

@@ -105,9 +105,9 @@ module _ (w : World) (env : List Value) where
 abbrev pub place_of : List Value → ℕ → Value
 place_of vs n = unwrap_or (numbered vs n) wrong
 
--- the values at all other places
-abbrev pub others : List Value → ℕ → List Value
-others vs n = take (n - 1) vs ++ drop n vs
+-- what stands at all other places
+abbrev pub others : {A : Type 0} → List A → ℕ → List A
+others xs n = take (n - 1) xs ++ drop n xs
 
 -- The calls that the body of a primitive recursive function may make at the arguments `vs`: its own where the argument
 -- at `place` has become smaller, and those of earlier functions. Any other call isn't lower and gives False.

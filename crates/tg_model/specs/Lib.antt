@@ -7,6 +7,7 @@ pub mod Typing
 pub mod Table
 pub mod Denotation
 pub mod Truth
+pub mod TermTyping
 pub mod Uses
 pub mod Walk
 pub mod Laws

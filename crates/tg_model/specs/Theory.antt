@@ -77,12 +77,13 @@ datatype_of (parameter n) = 0
 datatype_of (meta n) = 0
 datatype_of (applied d ts) = d
 
--- a declared type at the arguments `us`
+-- A declared type at the arguments `us`. A parameter without an argument, which no declared type has, is nat: so an instance
+-- of an instance is an instance.
 abbrev mutual
   pub instance : List Ty → Ty → Ty
   instance us nat = nat
   instance us bool = bool
-  instance us (parameter n) = unwrap_or (numbered us n) (parameter n)
+  instance us (parameter n) = unwrap_or (numbered us n) nat
   instance us (meta n) = meta n
   instance us (applied d ts) = applied d (instances us ts)
 
