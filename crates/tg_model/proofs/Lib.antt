@@ -6,5 +6,6 @@ pub mod Places
 pub mod Recursion
 pub mod SameValue
 pub mod Substitutions
+pub mod TermSoundness
 pub mod ValueTyping
 pub mod Walks
