@@ -1,4 +1,5 @@
 pub mod Freshness
+pub mod Inhabited
 pub mod Instances
 pub mod KnownValues
 pub mod Numbering
@@ -7,5 +8,6 @@ pub mod Recursion
 pub mod SameValue
 pub mod Substitutions
 pub mod TermSoundness
+pub mod TheorySoundness
 pub mod ValueTyping
 pub mod Walks

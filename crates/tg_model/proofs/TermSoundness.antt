@@ -17,11 +17,11 @@ use Rattle.tg_model.proofs.Places.{map-reverse}
 use Rattle.tg_model.proofs.Instances.{instances_tys, composed, list_composed}
 use Rattle.tg_model.proofs.ValueTyping.{typed_at, typed_append, typed_reverse, typed_length, chosen_typed, operated_typed, Opens, opens}
 
-datatype_instance : (us : List Ty) (n : ℕ) (ts : List Ty) → instance us (datatype_at n ts) ≡ datatype_at n (map (instance us) ts)
+pub datatype_instance : (us : List Ty) (n : ℕ) (ts : List Ty) → instance us (datatype_at n ts) ≡ datatype_at n (map (instance us) ts)
 datatype_instance us zero ts = refl
 datatype_instance us (suc n) ts = ap (applied (suc n)) (instances_tys us ts)
 
-is_datatype_instance : (th : Theory) (us : List Ty) (n : ℕ) (ts : List Ty) → IsDatatype th n ts → IsDatatype th n (map (instance us) ts)
+pub is_datatype_instance : (th : Theory) (us : List Ty) (n : ℕ) (ts : List Ty) → IsDatatype th n ts → IsDatatype th n (map (instance us) ts)
 is_datatype_instance th us zero ts h = ap (map (instance us)) h
 is_datatype_instance th us (suc n) ts h = (h.0, h.1, length-map ts (instance us) ∙ h.2)
 
@@ -36,12 +36,12 @@ arguments_of_option : (us ts : List Ty) (o : Option Datatype)
 arguments_of_option us ts None = refl
 arguments_of_option us ts (Some x) = each_composed us ts x.constructors
 
-arguments_composed : (th : Theory) (us : List Ty) (n : ℕ) (ts : List Ty)
+pub arguments_composed : (th : Theory) (us : List Ty) (n : ℕ) (ts : List Ty)
     → constructor_arguments th n (map (instance us) ts) ≡ map (map (instance us)) (constructor_arguments th n ts)
 arguments_composed th us zero ts = refl
 arguments_composed th us (suc n) ts = arguments_of_option us ts (slice_get th.datatypes n)
 
-mapped_back : (f : List Ty → List Ty) (o : Option (List Ty)) (args : List Ty) → option_map f o ≡ Some args → (ts : List Ty) × (o ≡ Some ts) × (f ts ≡ args)
+pub mapped_back : (f : List Ty → List Ty) (o : Option (List Ty)) (args : List Ty) → option_map f o ≡ Some args → (ts : List Ty) × (o ≡ Some ts) × (f ts ≡ args)
 mapped_back f None args e = cc
 mapped_back f (Some ts) args e = (ts, refl, cc)
 

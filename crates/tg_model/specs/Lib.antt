@@ -8,6 +8,7 @@ pub mod Table
 pub mod Denotation
 pub mod Truth
 pub mod TermTyping
+pub mod WellTyped
 pub mod Uses
 pub mod Walk
 pub mod Laws

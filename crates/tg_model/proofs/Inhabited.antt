@@ -1,0 +1,94 @@
+-- In a well-typed theory the least value of a closed type has the type.
+use Rattle.std.proofs.Common.{ℕ, zero, suc, ◌≡◌, ◌<◌, ◌≤◌, ◌+◌, ◌-◌, Bool, true, false, List, [], ◌∷◌, ◌++◌, map, length, Option, Some, None, refl, sym, ◌∙◌, ap, subst, inl, inr, nat_eq, if◌then◌else◌, arith}
+use Rattle.std.specs.Prelude.{slice_get, unwrap_or, option_map}
+use Rattle.std.specs.Option.{option_map_or}
+use Rattle.std.specs.List.{list_any}
+use Rattle.std.proofs.lemmas.Bool.Decides.{eqb_tells}
+use Rattle.std.proofs.lemmas.List.{length-map}
+use Rattle.std.proofs.lemmas.Option.{slice_get-map, slice_get_within}
+use Rattle.tg_model.specs.Types as types
+use Rattle.tg_model.specs.Types.{Ty, nat, bool, parameter, meta, applied, Tys, tys}
+use Rattle.tg_model.specs.Value.{Value, number, boolean, made, values, wrong}
+use Rattle.tg_model.specs.Theory.{Theory, Datatype, Constructor, Owned, numbered, constructors_from, constructor_at, constructors_before, first_constructor, instance, instances, datatype_of, IsClosed, AreClosed}
+use Rattle.tg_model.specs.Typing.{HasType, HaveTypes, AreTyped, base_constructor, least_at, all_least, least_below, least}
+use Rattle.tg_model.specs.WellTyped.{IsBefore, AreBefore, IsInhabited, IsWellTyped}
+use Rattle.tg_model.proofs.Places.{get_left, get_past}
+
+abbrev owned : ℕ → Constructor → Owned
+owned e c = record { datatype = e; constructor = c }
+
+numbered_from : (e : ℕ) (ds : List Datatype) (place : ℕ) (x : Datatype) (j : ℕ) (k : Constructor) → slice_get ds place ≡ Some x → slice_get x.constructors j ≡ Some k
+    → slice_get (constructors_from e ds) (constructors_before place ds + j) ≡ Some (owned (e + place) k)
+numbered_from e [] place x j k is h = cc
+numbered_from e (y ∷ ds) zero x j k is h =
+    let same : y ≡ x = cc is in
+    let own : slice_get y.constructors j ≡ Some k = ap (λ (z : Datatype). slice_get z.constructors j) same ∙ h in
+    let within : j < length (map (owned e) y.constructors) = omega (arith, length-map y.constructors (owned e), slice_get_within y.constructors j k own) in
+    let index : 0 + j ≡ j = omega arith in
+    let sum : e ≡ e + 0 = omega arith in
+    ap (slice_get (map (owned e) y.constructors ++ constructors_from (suc e) ds)) index
+      ∙ (get_left (map (owned e) y.constructors) (constructors_from (suc e) ds) j within
+        ∙ (slice_get-map (owned e) y.constructors j ∙ (ap (option_map (owned e)) own ∙ ap (λ n. Some (owned n k)) sum)))
+numbered_from e (y ∷ ds) (suc place) x j k is h =
+    let count = length-map y.constructors (owned e) in
+    let before = constructors_before place ds in
+    let past : length (map (owned e) y.constructors) ≤ length y.constructors + before + j = omega (arith, count) in
+    let index : length y.constructors + before + j - length (map (owned e) y.constructors) ≡ before + j = omega (arith, count) in
+    let sum : suc e + place ≡ e + suc place = omega arith in
+    get_past (map (owned e) y.constructors) (constructors_from (suc e) ds) (length y.constructors + before + j) past
+      ∙ (ap (slice_get (constructors_from (suc e) ds)) index ∙ (numbered_from (suc e) ds place x j k is h ∙ ap (λ n. Some (owned n k)) sum))
+
+constructor_number : (th : Theory) (place : ℕ) (x : Datatype) (j : ℕ) (k : Constructor) → slice_get th.datatypes place ≡ Some x → slice_get x.constructors j ≡ Some k
+    → constructor_at th (first_constructor th.datatypes (suc place) + j) ≡ Some (owned (suc place) k)
+constructor_number th place x j k is h =
+    let index : 1 + constructors_before place th.datatypes + j ≡ suc (constructors_before place th.datatypes + j) = omega arith in
+    let sum : 1 + place ≡ suc place = omega arith in
+    ap (constructor_at th) index ∙ (numbered_from 1 th.datatypes place x j k is h ∙ ap (λ n. Some (owned n k)) sum)
+
+base_place : (d c : ℕ) (ks : List Constructor) (m : ℕ) (k : Constructor) → base_constructor d c ks ≡ Some (m, k) → (j : ℕ) × (m ≡ c + j) × (slice_get ks j ≡ Some k)
+base_place d c [] m k e = cc
+base_place d c (x ∷ ks) m k e = by_test (list_any (λ t. nat_eq (datatype_of t) d) x.arguments) e (λ h. base_place d (suc c) ks m k h)
+  where
+    by_test : (b : Bool) → (if b then base_constructor d (suc c) ks else Some (c, x)) ≡ Some (m, k)
+        → (base_constructor d (suc c) ks ≡ Some (m, k) → (j : ℕ) × (m ≡ suc c + j) × (slice_get ks j ≡ Some k)) → (j : ℕ) × (m ≡ c + j) × (slice_get (x ∷ ks) j ≡ Some k)
+    by_test true h next = let p = next h in (suc p.0, omega (arith, p.1), p.2)
+    by_test false h next =
+        let q : (c, x) ≡ (m, k) = cc h in
+        let first = ap (λ (r : ℕ × Constructor). r.0) q in
+        (0, omega (arith, first), ap (λ (r : ℕ × Constructor). Some r.1) q)
+
+instances_listed : (us : List Ty) (ts : Tys) → instances us ts ≡ tys (map (instance us) (types.listed ts))
+instances_listed us types.none = refl
+instances_listed us (types.more t ts) = ap (types.more (instance us t)) (instances_listed us ts)
+
+typed_parameter : (th : Theory) (vs : List Value) (us : List Ty) (i : ℕ) → AreTyped th vs us → i < length us
+    → HasType th (option_map_or (λ (v : Value). v) (slice_get vs i) wrong) (unwrap_or (slice_get us i) nat)
+typed_parameter th vs [] i h low = absurd (omega arith)
+typed_parameter th [] (u ∷ us) i h low = absurd h
+typed_parameter th (v ∷ vs) (u ∷ us) zero h low = h.0
+typed_parameter th (v ∷ vs) (u ∷ us) (suc i) h low = typed_parameter th vs us i h.1 (omega arith)
+
+-- the least values of earlier types, where those of earlier datatypes are given
+module _ (th : Theory) (d : ℕ) (below : ℕ → List Value → Value)
+    (typed_below : (e : ℕ) (x : Datatype) (ts : List Ty) (ws : List Value) → e < d → numbered th.datatypes e ≡ Some x → length ts ≡ x.parameters → AreTyped th ws ts
+      → HasType th (below e ws) (applied e (tys ts)))
+    (us : List Ty) (vs : List Value) (typed : AreTyped th vs us) where
+  mutual
+    least_typed : (t : Ty) → IsBefore th d (length us) t → HasType th (least_at below vs t) (instance us t)
+    least_typed nat h = refl
+    least_typed bool h = refl
+    least_typed (parameter zero) h = absurd (omega (arith, h.0))
+    least_typed (parameter (suc i)) h = typed_parameter th vs us i typed (omega (arith, h.1))
+    least_typed (meta n) h = absurd h
+    least_typed (applied e ts) h =
+        subst (λ (x : Tys). HasType th (below e (all_least below vs ts)) (applied e x)) (sym (instances_listed us ts))
+          (typed_below e h.0.1.0 (map (instance us) (types.listed ts)) (all_least below vs ts) h.0.0 h.0.1.1
+            (length-map (types.listed ts) (instance us) ∙ h.0.1.2) (all_least_typed ts h.1))
+
+    all_least_typed : (ts : Tys) → AreBefore th d (length us) ts → AreTyped th (all_least below vs ts) (map (instance us) (types.listed ts))
+    all_least_typed types.none h = tt
+    all_least_typed (types.more t ts) h = (least_typed t h.0, all_least_typed ts h.1)
+
+  list_least_typed : (ts : List Ty) → AreBefore th d (length us) (tys ts) → AreTyped th (map (least_at below vs) ts) (map (instance us) ts)
+  list_least_typed [] h = tt
+  list_least_typed (t ∷ ts) h = (least_typed t h.0, list_least_typed ts h.1)
