@@ -92,3 +92,96 @@ module _ (th : Theory) (d : ℕ) (below : ℕ → List Value → Value)
   list_least_typed : (ts : List Ty) → AreBefore th d (length us) (tys ts) → AreTyped th (map (least_at below vs) ts) (map (instance us) ts)
   list_least_typed [] h = tt
   list_least_typed (t ∷ ts) h = (least_typed t h.0, list_least_typed ts h.1)
+
+declared_number : (th : Theory) (e : ℕ) (x : Datatype) → numbered th.datatypes e ≡ Some x → e ≤ length th.datatypes
+declared_number th zero x h = omega arith
+declared_number th (suc e) x h = slice_get_within th.datatypes e x h
+
+mutual
+  closed_before : (th : Theory) (d : ℕ) (t : Ty) → length th.datatypes < d → IsClosed th t → IsBefore th d 0 t
+  closed_before th d nat far h = tt
+  closed_before th d bool far h = tt
+  closed_before th d (parameter n) far h = absurd h
+  closed_before th d (meta n) far h = absurd h
+  closed_before th d (applied e ts) far h =
+      let low : e < d = omega (arith, declared_number th e h.0.0 h.0.1) in ((low, h.0), all_closed_before th d ts far h.1)
+
+  all_closed_before : (th : Theory) (d : ℕ) (ts : Tys) → length th.datatypes < d → AreClosed th ts → AreBefore th d 0 ts
+  all_closed_before th d types.none far h = tt
+  all_closed_before th d (types.more t ts) far h = (closed_before th d t far h.0, all_closed_before th d ts far h.1)
+
+-- a closed type is its own instance
+mutual
+  pub closed_instance : (th : Theory) (us : List Ty) (t : Ty) → IsClosed th t → instance us t ≡ t
+  closed_instance th us nat h = refl
+  closed_instance th us bool h = refl
+  closed_instance th us (parameter n) h = absurd h
+  closed_instance th us (meta n) h = absurd h
+  closed_instance th us (applied d ts) h = ap (applied d) (all_closed_instance th us ts h.1)
+
+  all_closed_instance : (th : Theory) (us : List Ty) (ts : Tys) → AreClosed th ts → instances us ts ≡ ts
+  all_closed_instance th us types.none h = refl
+  all_closed_instance th us (types.more t ts) h = λ i. types.more (closed_instance th us t h.0 i) (all_closed_instance th us ts h.1 i)
+
+pub list_closed_instance : (th : Theory) (us ts : List Ty) → AreClosed th (tys ts) → map (instance us) ts ≡ ts
+list_closed_instance th us [] h = refl
+list_closed_instance th us (t ∷ ts) h = λ i. closed_instance th us t h.0 i ∷ list_closed_instance th us ts h.1 i
+
+if_true : (x y : Value) (b : Bool) → b ≡ true → (if b then x else y) ≡ x
+if_true x y true e = refl
+if_true x y false e = cc
+
+if_false : (x y : Value) (b : Bool) → b ≡ false → (if b then x else y) ≡ y
+if_false x y true e = cc
+if_false x y false e = refl
+
+module _ (th : Theory) (wt : IsWellTyped th) where
+  abbrev below : ℕ → ℕ → List Value → Value
+  below = least_below th.datatypes
+
+  -- the value that the definition makes of the first constructor without an argument of the datatype itself
+  abbrev made_from : ℕ → ℕ → List Value → Option Datatype → Value
+  made_from n d ws o = option_map_or
+      (λ (x : Datatype). option_map_or
+        (λ (p : ℕ × Constructor). made p.0 (values (map (least_at (below n) ws) p.1.arguments)))
+        (base_constructor d (first_constructor th.datatypes d) x.constructors) wrong)
+      o wrong
+
+  abbrev LeastTyped : ℕ → Type 0
+  LeastTyped n = (d : ℕ) (x : Datatype) (ts : List Ty) (ws : List Value) → d ≤ n → numbered th.datatypes d ≡ Some x → length ts ≡ x.parameters → AreTyped th ws ts
+      → HasType th (below n d ws) (applied d (tys ts))
+
+  made_typed : (n place : ℕ) (x : Datatype) (ts : List Ty) (ws : List Value) → suc place ≡ suc n → LeastTyped n → slice_get th.datatypes place ≡ Some x
+      → length ts ≡ x.parameters → AreTyped th ws ts → HasType th (made_from n (suc place) ws (Some x)) (applied (suc place) (tys ts))
+  made_typed n place x ts ws e lower is count typed =
+      let inhabited = wt.datatypes place x is in
+      let k = inhabited.constructor in
+      let base = base_place (suc place) (first_constructor th.datatypes (suc place)) x.constructors inhabited.number k inhabited.base in
+      let at : constructor_at th inhabited.number ≡ Some (owned (suc place) k) =
+          ap (constructor_at th) base.1 ∙ constructor_number th place x base.0 k is base.2 in
+      let before : AreBefore th (suc place) (length ts) (tys k.arguments) =
+          subst (λ (m : ℕ). AreBefore th (suc place) m (tys k.arguments)) (sym count) inhabited.before in
+      let arguments = list_least_typed th (suc place) (below n)
+          (λ f y us vs low. lower f y us vs (omega (arith, e))) ts ws typed k.arguments before in
+      subst (λ (o : Option (ℕ × Constructor)). HasType th (option_map_or (λ (p : ℕ × Constructor). made p.0 (values (map (least_at (below n) ws) p.1.arguments))) o wrong) (applied (suc place) (tys ts)))
+        (sym inhabited.base) (owned (suc place) k, at, (ts, refl, arguments))
+
+  least_below_typed : (n : ℕ) → LeastTyped n
+  least_below_typed zero zero x ts ws low is count typed = cc is
+  least_below_typed zero (suc d) x ts ws low is count typed = absurd (omega arith)
+  least_below_typed (suc n) zero x ts ws low is count typed = cc is
+  least_below_typed (suc n) (suc place) x ts ws low is count typed =
+      elim (eqb_tells (suc place) (suc n)) [
+        inl p ↦ subst (λ (v : Value). HasType th v (applied (suc place) (tys ts)))
+          (sym (if_true (made_from n (suc place) ws (slice_get th.datatypes place)) (below n (suc place) ws) (nat_eq (suc place) (suc n)) p.0 ∙ ap (made_from n (suc place) ws) is))
+          (made_typed n place x ts ws p.1 (least_below_typed n) is count typed)
+        | inr p ↦ subst (λ (v : Value). HasType th v (applied (suc place) (tys ts)))
+          (sym (if_false (made_from n (suc place) ws (slice_get th.datatypes place)) (below n (suc place) ws) (nat_eq (suc place) (suc n)) p.0))
+          (least_below_typed n (suc place) x ts ws (omega (arith, p.1)) is count typed) ]
+
+  pub least_has_type : (t : Ty) → IsClosed th t → HasType th (least th t) t
+  least_has_type t closed =
+      let all = length th.datatypes in
+      let before = closed_before th (suc all) t (omega arith) closed in
+      let typed = least_typed th (suc all) (below all) (λ e x ts ws low is count k. least_below_typed all e x ts ws (omega arith) is count k) [] [] tt t before in
+      subst (λ (u : Ty). HasType th (least th t) u) (closed_instance th [] t closed) typed
