@@ -127,11 +127,11 @@ pub list_closed_instance : (th : Theory) (us ts : List Ty) → AreClosed th (tys
 list_closed_instance th us [] h = refl
 list_closed_instance th us (t ∷ ts) h = λ i. closed_instance th us t h.0 i ∷ list_closed_instance th us ts h.1 i
 
-if_true : (x y : Value) (b : Bool) → b ≡ true → (if b then x else y) ≡ x
+pub if_true : (x y : Value) (b : Bool) → b ≡ true → (if b then x else y) ≡ x
 if_true x y true e = refl
 if_true x y false e = cc
 
-if_false : (x y : Value) (b : Bool) → b ≡ false → (if b then x else y) ≡ y
+pub if_false : (x y : Value) (b : Bool) → b ≡ false → (if b then x else y) ≡ y
 if_false x y true e = cc
 if_false x y false e = refl
 

@@ -1,3 +1,4 @@
+pub mod CallSoundness
 pub mod Freshness
 pub mod Inhabited
 pub mod Instances

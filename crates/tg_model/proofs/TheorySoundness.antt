@@ -20,11 +20,11 @@ use Rattle.tg_model.proofs.Places.{get_right}
 use Rattle.tg_model.proofs.ValueTyping.{typed_at, typed_append, typed_length, Opens, opens}
 use Rattle.tg_model.proofs.TermSoundness.{sound, datatype_instance, is_datatype_instance, arguments_composed, mapped_back}
 
-world_first : (th : Theory) (tb : Table) (n d : ℕ) → (world_below th tb n).first d ≡ first_constructor th.datatypes d
+pub world_first : (th : Theory) (tb : Table) (n d : ℕ) → (world_below th tb n).first d ≡ first_constructor th.datatypes d
 world_first th tb zero d = refl
 world_first th tb (suc n) d = refl
 
-world_answers : (th : Theory) (tb : Table) (n : ℕ) (vs : List Value) → (world_below th tb n).answers vs ≡ answer_of th tb vs
+pub world_answers : (th : Theory) (tb : Table) (n : ℕ) (vs : List Value) → (world_below th tb n).answers vs ≡ answer_of th tb vs
 world_answers th tb zero vs = refl
 world_answers th tb (suc n) vs = refl
 
@@ -41,7 +41,7 @@ opened_if false p q e = cc
 opened_parts : (p q : ℕ × List Value) → Some p ≡ Some q → p.1 ≡ q.1
 opened_parts p q e = let r : p ≡ q = cc e in ap (λ (x : ℕ × List Value). x.1) r
 
-smaller : (d first : ℕ) (v : Value) (k : ℕ) (parts : List Value) → opened d first v ≡ Some (k, parts) → (i : ℕ) (u : Value) → slice_get parts i ≡ Some u → size u < size v
+pub smaller : (d first : ℕ) (v : Value) (k : ℕ) (parts : List Value) → opened d first v ≡ Some (k, parts) → (i : ℕ) (u : Value) → slice_get parts i ≡ Some u → size u < size v
 smaller zero first (number zero) k parts e i u h =
     let p = opened_parts (0, []) (k, parts) e in
     let q : None ≡ Some u = ap (λ (l : List Value). slice_get l i) p ∙ h in cc
@@ -61,7 +61,7 @@ smaller (suc d) first (made c vs) k parts e i u h =
     let q : slice_get (value.listed vs) i ≡ Some u = ap (λ (l : List Value). slice_get l i) p ∙ h in
     let r = part_size vs i u q in omega arith
 
-case_at : (th : Theory) (self : ℕ) (x : Function) (place : ℕ) (cases : List Tree) (all : List (List Ty)) (k : ℕ) (args : List Ty)
+pub case_at : (th : Theory) (self : ℕ) (x : Function) (place : ℕ) (cases : List Tree) (all : List (List Ty)) (k : ℕ) (args : List Ty)
     → AreCases th self x place cases all → slice_get all k ≡ Some args
     → (t : Tree) × (slice_get cases k ≡ Some t) × EachCall (IsLower self place (length (others x.arguments place)) (length args)) t
       × IsTyped th (others x.arguments place ++ args) [] t x.answer
@@ -89,17 +89,17 @@ typed_drop th f (suc n) [] (t ∷ ts) h = absurd h
 typed_drop th f (suc n) (v ∷ vs) [] h = absurd h
 typed_drop th f (suc n) (v ∷ vs) (t ∷ ts) h = typed_drop th f n vs ts h.1
 
-typed_others : (th : Theory) (f : Ty → Ty) (n : ℕ) (vs : List Value) (ts : List Ty) → AreTyped th vs (map f ts) → AreTyped th (others vs n) (map f (others ts n))
+pub typed_others : (th : Theory) (f : Ty → Ty) (n : ℕ) (vs : List Value) (ts : List Ty) → AreTyped th vs (map f ts) → AreTyped th (others vs n) (map f (others ts n))
 typed_others th f n vs ts h =
     subst (λ (x : List Ty). AreTyped th (others vs n) x) (sym (map-append f (take (n - 1) ts) (drop n ts)))
       (typed_append th (take (n - 1) vs) (drop n vs) (map f (take (n - 1) ts)) (map f (drop n ts)) (typed_take th f (n - 1) vs ts h) (typed_drop th f n vs ts h))
 
-typed_place : (th : Theory) (f : Ty → Ty) (n : ℕ) (vs : List Value) (ts : List Ty) (t : Ty) → AreTyped th vs (map f ts) → numbered ts n ≡ Some t → HasType th (place_of vs n) (f t)
+pub typed_place : (th : Theory) (f : Ty → Ty) (n : ℕ) (vs : List Value) (ts : List Ty) (t : Ty) → AreTyped th vs (map f ts) → numbered ts n ≡ Some t → HasType th (place_of vs n) (f t)
 typed_place th f zero vs ts t h e = cc
 typed_place th f (suc n) vs ts t h e = typed_at th f ts vs n t h e
 
 -- the value of an argument that is a variable
-listed_value : (w : World) (env loc : List Value) (ts : Trees) (n : ℕ) → numbered (values_in w env loc ts) n ≡ option_map (value_in w env loc) (numbered (listed ts) n)
+pub listed_value : (w : World) (env loc : List Value) (ts : Trees) (n : ℕ) → numbered (values_in w env loc ts) n ≡ option_map (value_in w env loc) (numbered (listed ts) n)
 listed_value w env loc ts zero = refl
 listed_value w env loc tree.none (suc n) = refl
 listed_value w env loc (tree.more t ts) (suc zero) = refl
