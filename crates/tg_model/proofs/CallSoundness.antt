@@ -6,18 +6,20 @@ use Rattle.std.specs.Option.{option_map_or}
 use Rattle.std.proofs.lemmas.Bool.{eq-eqb, ne_eqb, lt-ltb}
 use Rattle.std.proofs.lemmas.Bool.Decides.{eqb_tells}
 use Rattle.std.proofs.lemmas.List.{map-append, length-map}
-use Rattle.std.proofs.lemmas.Option.{slice_get_within}
+use Rattle.std.proofs.lemmas.Option.{slice_get-map, slice_get_within}
 use Rattle.tg_model.specs.Types.{Ty, nat, bool, applied, tys}
-use Rattle.tg_model.specs.Tree.{Tree, Trees, free, listed}
-use Rattle.tg_model.specs.Value.{Value, wrong, size}
-use Rattle.tg_model.specs.Theory.{Theory, Function, Body, plain, recursive, numbered, first_constructor, instance, datatype_of}
-use Rattle.tg_model.specs.Typing.{HasType, AreTyped}
-use Rattle.tg_model.specs.Table.{Table, answer_of}
+use Rattle.tg_model.specs.Tree as tree
+use Rattle.tg_model.specs.Tree.{Tree, Trees, Arms, bound, free, literal, truth, con, call, put, choice, case, bind, op, listed}
+use Rattle.tg_model.specs.Value.{Value, values, wrong, size, same_values}
+use Rattle.tg_model.specs.Theory.{Theory, Function, Body, plain, recursive, numbered, first_constructor, instance, datatype_of, IsClosed, AreClosed}
+use Rattle.tg_model.specs.Typing.{HasType, AreTyped, least}
+use Rattle.tg_model.specs.Table.{Table, recorded, answer_of, IsTable}
 use Rattle.tg_model.specs.Denotation.{World, value_in, values_in, opened, place_of, others, lower_calls, case_value, recursive_value, body_value, world_below, world, den}
-use Rattle.tg_model.specs.TermTyping.{Typing, IsTyping, IsTyped, type_of, EachCall, IsDatatype, datatype_at, constructor_arguments}
+use Rattle.tg_model.specs.TermTyping.{Typing, IsTyping, IsTyped, type_of, EachCall, EachCalls, EachCallOf, IsDatatype, datatype_at, constructor_arguments}
 use Rattle.tg_model.specs.WellTyped.{IsLower, AreCases, IsBody, IsWellTyped}
+use Rattle.tg_model.specs.Laws.{IsTypeSound}
 use Rattle.tg_model.proofs.Places.{get_right}
-use Rattle.tg_model.proofs.Inhabited.{closed_instance, list_closed_instance, if_true, if_false}
+use Rattle.tg_model.proofs.Inhabited.{least_has_type, closed_instance, list_closed_instance, if_true, if_false}
 use Rattle.tg_model.proofs.ValueTyping.{typed_append, typed_length, Opens, opens}
 use Rattle.tg_model.proofs.TermSoundness.{sound, datatype_instance, is_datatype_instance, arguments_composed, mapped_back}
 use Rattle.tg_model.proofs.TheorySoundness.{world_first, world_answers, smaller, case_at, typed_others, typed_place, listed_value}
@@ -101,3 +103,128 @@ module _ (th : Theory) (tb : Table) (wt : IsWellTyped th) (answered : (vs : List
         found [] i h = absurd (omega arith)
         found (v ∷ vs) zero h = (v, refl)
         found (v ∷ vs) (suc i) h = found vs i (omega arith)
+
+    -- what the body's case makes of the constructor that was found
+    abbrev case_of : ℕ → List Value → Option (ℕ × List Value) → Value
+    case_of m vs o = option_map_or
+        (λ (p : ℕ × List Value). option_map_or (λ t. value_in (inner m vs) (others vs place ++ p.1) [] t) (slice_get cases p.0) wrong) o wrong
+
+    value_typed : (m : ℕ) → Typed_below m
+    value_typed zero us vs typed low = absurd (omega arith)
+    value_typed (suc m) us vs typed low =
+        let v = place_of vs place in
+        let scrutinee : HasType th v (datatype_at d (map (instance us) args)) =
+            subst (λ (t : Ty). HasType th v t) (datatype_instance us d args) (typed_place th (instance us) place vs x.arguments (datatype_at d args) typed at_place) in
+        let o = opens th d (map (instance us) args) v (is_datatype_instance th us d args is_datatype) scrutinee in
+        let declared = mapped_back (map (instance us)) (slice_get (constructor_arguments th d args) o.place) o.arguments
+            (sym (slice_get-map (map (instance us)) (constructor_arguments th d args) o.place)
+              ∙ (ap (λ l. slice_get l o.place) (sym (arguments_composed th us d args)) ∙ o.found)) in
+        let c = case_at th (suc n) x place cases (constructor_arguments th d args) o.place declared.0 are_cases declared.1 in
+        let taken : opened d (w.first d) v ≡ Some (o.place, o.parts) = ap (λ k. opened d k v) (world_first th tb n d) ∙ o.is in
+        let parts : AreTyped th o.parts (map (instance us) declared.0) = subst (λ (ts : List Ty). AreTyped th o.parts ts) (sym declared.2) o.typed in
+        let rest : AreTyped th (others vs place) (map (instance us) (others x.arguments place)) = typed_others th (instance us) place vs x.arguments typed in
+        let env : AreTyped th (others vs place ++ o.parts) (map (instance us) (others x.arguments place ++ declared.0)) =
+            subst (λ (ts : List Ty). AreTyped th (others vs place ++ o.parts) ts) (sym (map-append (instance us) (others x.arguments place) declared.0))
+              (typed_append th (others vs place) o.parts (map (instance us) (others x.arguments place)) (map (instance us) declared.0) rest parts) in
+        let start = typed_length th (others vs place) (map (instance us) (others x.arguments place)) rest ∙ length-map (others x.arguments place) (instance us) in
+        let count = typed_length th o.parts (map (instance us) declared.0) parts ∙ length-map declared.0 (instance us) in
+        let body = sound th (inner m vs) us (others x.arguments place ++ declared.0) (others vs place ++ o.parts) (world_first th tb n) env (program_answers n us)
+            (IsLower (suc n) place (length (others x.arguments place)) (length declared.0))
+            (allowed_call m (value_typed m) us vs o.parts o.place o.is low (length (others x.arguments place)) (length declared.0) start count)
+            c.0 c.3.0 [] [] tt c.2 c.3.1 in
+        subst (λ (z : Value). HasType th z (instance us x.answer))
+          (sym (ap (case_of m vs) taken ∙ ap (λ (t : Option Tree). option_map_or (λ t. value_in (inner m vs) (others vs place ++ o.parts) [] t) t wrong) c.1))
+          (subst (λ (t : Ty). HasType th (value_in (inner m vs) (others vs place ++ o.parts) [] c.0) (instance us t)) c.3.2 body)
+
+  body_typed : (n : ℕ) → CallsTyped n → (x : Function) → numbered th.functions (suc n) ≡ Some x → (b : Body) → IsBody th (suc n) x b
+      → (us : List Ty) (vs : List Value) → AreTyped th vs (map (instance us) x.arguments) → HasType th (body_value (world_below th tb n) (suc n) x b vs) (instance us x.answer)
+  body_typed n calls x is (plain t) h us vs typed = typed_term n us x.arguments vs t x.answer calls typed h.0 h.1
+  body_typed n calls x is (recursive place cases) (d, args, at_place, is_datatype, are_cases) us vs typed =
+      let number : option_map_or datatype_of (numbered x.arguments place) 0 ≡ d =
+          ap (λ (o : Option Ty). option_map_or datatype_of o 0) at_place ∙ datatype_of_at d args in
+      subst (λ (e : ℕ). HasType th (recursive_value (world_below th tb n) (suc n) place e cases (suc (size (place_of vs place))) vs) (instance us x.answer)) (sym number)
+        (value_typed n calls x is place cases d args at_place is_datatype are_cases (suc (size (place_of vs place))) us vs typed (omega arith))
+
+  abbrev called_at : ℕ → List Value → Option Function → Value
+  called_at n vs o = option_map_or (λ (y : Function). body_value (world_below th tb n) (suc n) y y.body vs) o wrong
+
+  -- the function of the greatest number that may be called
+  last_typed : (n : ℕ) → CallsTyped n → (x : Function) (us : List Ty) (vs : List Value) → numbered th.functions (suc n) ≡ Some x
+      → AreTyped th vs (map (instance us) x.arguments) → HasType th ((world_below th tb (suc n)).calls (suc n) vs) (instance us x.answer)
+  last_typed n calls x us vs is typed =
+      subst (λ (v : Value). HasType th v (instance us x.answer))
+        (sym (if_true (called_at n vs (numbered th.functions (suc n))) ((world_below th tb n).calls (suc n) vs) (nat_eq (suc n) (suc n)) (eq-eqb (suc n) (suc n) refl)
+          ∙ ap (called_at n vs) is))
+        (body_typed n calls x is x.body (wt.functions (suc n) x is) us vs typed)
+
+  earlier_typed : (n : ℕ) → CallsTyped n → (f : ℕ) (x : Function) (us : List Ty) (vs : List Value) → f ≤ n → nat_eq f (suc n) ≡ false → numbered th.functions f ≡ Some x
+      → AreTyped th vs (map (instance us) x.arguments) → HasType th ((world_below th tb (suc n)).calls f vs) (instance us x.answer)
+  earlier_typed n calls f x us vs low other is typed =
+      subst (λ (v : Value). HasType th v (instance us x.answer))
+        (sym (if_false (option_map_or (λ (y : Function). body_value (world_below th tb n) f y y.body vs) (numbered th.functions f) wrong)
+          ((world_below th tb n).calls f vs) (nat_eq f (suc n)) other))
+        (calls f x us vs low is typed)
+
+  calls_typed : (n : ℕ) → CallsTyped n
+  calls_typed zero zero x us vs low is typed = cc is
+  calls_typed zero (suc f) x us vs low is typed = absurd (omega arith)
+  calls_typed (suc n) f x us vs low is typed =
+      elim (eqb_tells f (suc n)) [
+        inl p ↦ subst (λ (g : ℕ). HasType th ((world_below th tb (suc n)).calls g vs) (instance us x.answer)) (sym p.1)
+          (last_typed n (calls_typed n) x us vs (ap (numbered th.functions) (sym p.1) ∙ is) typed)
+        | inr p ↦ earlier_typed n (calls_typed n) f x us vs (omega (arith, p.1)) p.0 is typed ]
+
+  mutual
+    any_call : (t : Tree) → EachCall (λ f ts. Unit {0}) t
+    any_call (bound k) = tt
+    any_call (free n) = tt
+    any_call (literal n) = tt
+    any_call (truth b) = tt
+    any_call (con c ts) = any_calls ts
+    any_call (call f ts) = (tt, any_calls ts)
+    any_call (put ts) = any_calls ts
+    any_call (choice ts) = any_calls ts
+    any_call (case n t bs) = (any_call t, any_call_of bs)
+    any_call (bind t body) = (any_call t, any_call body)
+    any_call (op o ts) = any_calls ts
+
+    any_calls : (ts : Trees) → EachCalls (λ f ts. Unit {0}) ts
+    any_calls tree.none = tt
+    any_calls (tree.more t ts) = (any_call t, any_calls ts)
+
+    any_call_of : (bs : Arms) → EachCallOf (λ f ts. Unit {0}) bs
+    any_call_of tree.end = tt
+    any_call_of (tree.arm n body bs) = (any_call body, any_call_of bs)
+
+  pub term_typed : (vars locs : List Ty) (env loc : List Value) (t : Tree) (u : Ty) → AreClosed th (tys vars) → AreClosed th (tys locs) → IsClosed th u
+      → AreTyped th env vars → AreTyped th loc locs → IsTyped th vars locs t u → HasType th (den th tb env loc t) u
+  term_typed vars locs env loc t u closed_vars closed_locs closed_u typed_env typed_loc (d, h, e) =
+      let here : HasType th (den th tb env loc t) (instance [] (type_of d)) =
+          sound th (world th tb) [] vars env (world_first th tb (length th.functions))
+            (subst (λ (ts : List Ty). AreTyped th env ts) (sym (list_closed_instance th [] vars closed_vars)) typed_env)
+            (program_answers (length th.functions) []) (λ f ts. Unit {0})
+            (λ l f ts x vs allowed is args. calls_typed (length th.functions) f x vs (values_in (world th tb) env l ts) (declared f x is) is args)
+            t d locs loc (subst (λ (ts : List Ty). AreTyped th loc ts) (sym (list_closed_instance th [] locs closed_locs)) typed_loc) (any_call t) h in
+      subst (λ (x : Ty). HasType th (den th tb env loc t) x) (ap (instance []) e ∙ closed_instance th [] u closed_u) here
+    where
+      declared : (f : ℕ) (x : Function) → numbered th.functions f ≡ Some x → f ≤ length th.functions
+      declared zero x is = cc is
+      declared (suc f) x is = slice_get_within th.functions f x is
+
+-- the answers of a table of declared types
+recorded_typed : (th : Theory) (tb : Table) (vs : List Value) (d : Value) → IsTable th tb → HasType th d th.program.answer
+    → HasType th (unwrap_or (recorded tb vs) d) th.program.answer
+recorded_typed th [] vs d h k = k
+recorded_typed th (e ∷ tb) vs d h k = either (same_values (values e.inputs) (values vs)) e.answer (recorded tb vs) d h.1 (recorded_typed th tb vs d h.3 k)
+  where
+    either : (b : Bool) (v : Value) (o : Option Value) (x : Value) → HasType th v th.program.answer → HasType th (unwrap_or o x) th.program.answer
+        → HasType th (unwrap_or (if b then Some v else o) x) th.program.answer
+    either true v o x p q = p
+    either false v o x p q = q
+
+pub answers_typed : (th : Theory) (tb : Table) → IsWellTyped th → IsTable th tb → (vs : List Value) → HasType th (answer_of th tb vs) th.program.answer
+answers_typed th tb wt table vs = recorded_typed th tb vs (least th th.program.answer) table (least_has_type th wt th.program.answer wt.answer)
+
+pub soundness : IsTypeSound
+soundness th tb wt table vars locs env loc t u closed_vars closed_locs closed_u typed_env typed_loc typed =
+    term_typed th tb wt (answers_typed th tb wt table) vars locs env loc t u closed_vars closed_locs closed_u typed_env typed_loc typed

@@ -2,6 +2,7 @@ pub mod CallSoundness
 pub mod Freshness
 pub mod Inhabited
 pub mod Instances
+pub mod Keeping
 pub mod KnownValues
 pub mod Numbering
 pub mod Places

@@ -1,10 +1,18 @@
 -- The laws of the definitions, which the crate's functions carry.
-use Rattle.std.specs.Prelude.{ℕ, suc, ◌≡◌, ◌<◌, List, Some, length, true}
+use Rattle.std.specs.Prelude.{ℕ, suc, ◌≡◌, ◌≢◌, ◌<◌, ◌↔◌, List, ◌∷◌, ◌++◌, map, reverse, Some, length, true}
 use Rattle.tg_model.specs.Tree.{Tree}
+use Rattle.tg_model.specs.Types.{Ty, tys}
+use Rattle.tg_model.specs.Formula.{Formula}
 use Rattle.tg_model.specs.Value.{Value, size, same_value}
-use Rattle.tg_model.specs.Theory.{Theory, Function, numbered}
-use Rattle.tg_model.specs.Table.{Table}
-use Rattle.tg_model.specs.Denotation.{World, place_of, lower_calls, case_value, recursive_value, body_value, world, world_below}
+use Rattle.tg_model.specs.Theory.{Theory, Function, numbered, IsClosed, AreClosed}
+use Rattle.tg_model.specs.Typing.{HasType, AreTyped}
+use Rattle.tg_model.specs.TermTyping.{IsTyped}
+use Rattle.tg_model.specs.WellTyped.{IsWellTyped}
+use Rattle.tg_model.specs.Truth.{Holds}
+use Rattle.tg_model.specs.Uses.{uses, uses_in_formula, AgreeWhere}
+use Rattle.tg_model.specs.Walk.{lifted, substituted, instantiated, abstracted, substituted_formula, instantiated_formula, abstracted_formula}
+use Rattle.tg_model.specs.Table.{Table, IsTable}
+use Rattle.tg_model.specs.Denotation.{World, place_of, lower_calls, case_value, recursive_value, body_value, world, world_below, den}
 
 -- a primitive recursive function, without the number that bounds the recursion
 abbrev pub recursion : World → ℕ → ℕ → ℕ → List Tree → List Value → Value
@@ -27,3 +35,54 @@ UnfoldsCalls = (th : Theory) (tb : Table) (n : ℕ) (x : Function) (vs : List Va
 -- Equality of values is decided by `same_value`.
 abbrev pub DecidesEquality : Type 0
 DecidesEquality = (v w : Value) → (same_value v w ≡ true → v ≡ w) × (v ≡ w → same_value v w ≡ true)
+
+-- Type soundness. In a well-typed theory, on a table of its program, a term that is typed at a closed type has, where its
+-- variables' values have their closed types, a value of that type. So no typed term meets a call that isn't lower, or any
+-- other use that no typing allows.
+abbrev pub IsTypeSound : Type 0
+IsTypeSound = (th : Theory) (tb : Table) → IsWellTyped th → IsTable th tb
+    → (vars locs : List Ty) (env loc : List Value) (t : Tree) (u : Ty) → AreClosed th (tys vars) → AreClosed th (tys locs) → IsClosed th u
+    → AreTyped th env vars → AreTyped th loc locs → IsTyped th vars locs t u → HasType th (den th tb env loc t) u
+
+-- Substitution keeps values, for all values of the loose bound variables. The lifted term has the value of the term, where
+-- the values of the binders that are lifted over are skipped.
+abbrev pub LiftingKeeps : Type 0
+LiftingKeeps = (th : Theory) (tb : Table) (env between loc : List Value) (t : Tree)
+    → den th tb env (between ++ loc) (lifted (length between) t) ≡ den th tb env loc t
+
+abbrev pub SubstitutionKeeps : Type 0
+SubstitutionKeeps = (th : Theory) (tb : Table) (env loc : List Value) (us : List Tree) (t : Tree)
+    → den th tb env loc (substituted us t) ≡ den th tb (map (den th tb env loc) us) loc t
+
+abbrev pub InstantiationKeeps : Type 0
+InstantiationKeeps = (th : Theory) (tb : Table) (env loc : List Value) (us : List Tree) (t : Tree)
+    → den th tb env loc (instantiated us t) ≡ den th tb env (reverse (map (den th tb env loc) us) ++ loc) t
+
+-- `env'` is `env` but for the value of `?n`, which the innermost loose bound variable has
+abbrev pub AbstractionKeeps : Type 0
+AbstractionKeeps = (th : Theory) (tb : Table) (env env' loc : List Value) (n : ℕ) (v : Value) (t : Tree)
+    → numbered env n ≡ Some v → ((m : ℕ) → m ≢ n → numbered env' m ≡ numbered env m)
+    → den th tb env' (v ∷ loc) (abstracted n t) ≡ den th tb env loc t
+
+-- The same of formulas: each is true exactly where the other is.
+abbrev pub SubstitutionKeepsTruth : Type 0
+SubstitutionKeepsTruth = (th : Theory) (tb : Table) (env loc : List Value) (us : List Tree) (f : Formula)
+    → Holds th tb env loc (substituted_formula us f) ↔ Holds th tb (map (den th tb env loc) us) loc f
+
+abbrev pub InstantiationKeepsTruth : Type 0
+InstantiationKeepsTruth = (th : Theory) (tb : Table) (env loc : List Value) (us : List Tree) (f : Formula)
+    → Holds th tb env loc (instantiated_formula us f) ↔ Holds th tb env (reverse (map (den th tb env loc) us) ++ loc) f
+
+abbrev pub AbstractionKeepsTruth : Type 0
+AbstractionKeepsTruth = (th : Theory) (tb : Table) (env env' loc : List Value) (n : ℕ) (v : Value) (f : Formula)
+    → numbered env n ≡ Some v → ((m : ℕ) → m ≢ n → numbered env' m ≡ numbered env m)
+    → Holds th tb env' (v ∷ loc) (abstracted_formula n f) ↔ Holds th tb env loc f
+
+-- A value, and the truth of a formula, depend on the variables that stand there and on no other.
+abbrev pub DependsOnUsed : Type 0
+DependsOnUsed = (th : Theory) (tb : Table) (env env' loc : List Value) (t : Tree) → AgreeWhere (λ m. uses m t) env env'
+    → den th tb env loc t ≡ den th tb env' loc t
+
+abbrev pub TruthDependsOnUsed : Type 0
+TruthDependsOnUsed = (th : Theory) (tb : Table) (env env' loc : List Value) (f : Formula) → AgreeWhere (λ m. uses_in_formula m f) env env'
+    → Holds th tb env loc f ↔ Holds th tb env' loc f

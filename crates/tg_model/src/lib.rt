@@ -1,9 +1,12 @@
 //! What the words of the language mean: terms, values, types, formulas and theories as mathematical
-//! trees, the value of a term on a table, and the truth of formulas. `specs/` has the definitions, one
-//! file a subject; the functions here have no code, and their contracts are the laws.
+//! trees, typings, the value of a term on a table, and the truth of formulas. `specs/` has the
+//! definitions, one file a subject; the functions here have no code, and their contracts are the laws.
 #![tactic(auto)]
 
-ghost use Rattle.tg_model.specs.Laws.{UnfoldsRecursion, UnfoldsCalls, DecidesEquality};
+ghost use Rattle.tg_model.specs.Laws.{UnfoldsRecursion, UnfoldsCalls, DecidesEquality, IsTypeSound};
+ghost use Rattle.tg_model.specs.Laws.{LiftingKeeps, SubstitutionKeeps, InstantiationKeeps, AbstractionKeeps};
+ghost use Rattle.tg_model.specs.Laws.{SubstitutionKeepsTruth, InstantiationKeepsTruth, AbstractionKeepsTruth};
+ghost use Rattle.tg_model.specs.Laws.{DependsOnUsed, TruthDependsOnUsed};
 
 /// The meaning of calls, as equations: a primitive recursive call is the body of its constructor's case,
 /// and a call of a declared function is its body. The definition counts a number down, and this says
@@ -11,9 +14,41 @@ ghost use Rattle.tg_model.specs.Laws.{UnfoldsRecursion, UnfoldsCalls, DecidesEqu
 pub fn unfolding()
     ensures recursion { UnfoldsRecursion }
     ensures calls { UnfoldsCalls }
-{}
+{
+}
 
 /// `=` on values is equality.
 pub fn equality()
     ensures { DecidesEquality }
-{}
+{
+}
+
+/// Type soundness: in a well-typed theory a typed term has a value of its type.
+pub fn type_soundness()
+    ensures { IsTypeSound }
+{
+}
+
+/// Substitution keeps values, on every table and for all values of the loose bound variables.
+pub fn substitution()
+    ensures lifting { LiftingKeeps }
+    ensures substitution { SubstitutionKeeps }
+    ensures instantiation { InstantiationKeeps }
+    ensures abstraction { AbstractionKeeps }
+{
+}
+
+/// Substitution in formulas keeps truth, on every table and for all values of the loose bound variables.
+pub fn substitution_in_formulas()
+    ensures substitution { SubstitutionKeepsTruth }
+    ensures instantiation { InstantiationKeepsTruth }
+    ensures abstraction { AbstractionKeepsTruth }
+{
+}
+
+/// Values and truth depend on the variables that stand in a term or a formula, and on no other.
+pub fn used_variables()
+    ensures values { DependsOnUsed }
+    ensures truth { TruthDependsOnUsed }
+{
+}
