@@ -24,19 +24,19 @@ use Rattle.tg_model.proofs.SameValue.{same_itself}
 --   primrec sum :: nat => nat where sum 0 = 0; sum (Suc n) = Suc n + sum n;
 --   definition double :: nat => nat where double x = x + x;
 --   program put :: nat list => nat list;  spec xs . put xs = sort xs;
-abbrev list_of : Ty → Ty
+abbrev pub list_of : Ty → Ty
 list_of t = applied 1 (tys (t ∷ []))
 
-abbrev nil : Tree
+abbrev pub nil : Tree
 nil = con 1 tree.none
 
-abbrev cons : Tree → Tree → Tree
+abbrev pub cons : Tree → Tree → Tree
 cons t u = con 2 (two t u)
 
-abbrev pair_of : Ty → Ty → Ty
+abbrev pub pair_of : Ty → Ty → Ty
 pair_of t u = applied 3 (tys (t ∷ u ∷ []))
 
-abbrev lists : Datatype
+abbrev pub lists : Datatype
 lists = record {
   name = codes "list";
   parameters = 1;
@@ -44,7 +44,7 @@ lists = record {
       record { name = codes "Nil"; arguments = [] } ∷ record { name = codes "Cons"; arguments = parameter 1 ∷ list_of (parameter 1) ∷ [] } ∷ [];
 }
 
-abbrev trees_of_naturals : Datatype
+abbrev pub trees_of_naturals : Datatype
 trees_of_naturals = record {
   name = codes "tree";
   parameters = 0;
@@ -52,7 +52,7 @@ trees_of_naturals = record {
       record { name = codes "Node"; arguments = applied 2 (tys []) ∷ nat ∷ applied 2 (tys []) ∷ [] } ∷ record { name = codes "Leaf"; arguments = [] } ∷ [];
 }
 
-abbrev pairs : Datatype
+abbrev pub pairs : Datatype
 pairs = record {
   name = codes "pair";
   parameters = 2;
@@ -60,7 +60,7 @@ pairs = record {
       record { name = codes "Pair"; arguments = parameter 1 ∷ parameter 2 ∷ [] } ∷ [];
 }
 
-abbrev ins : Function
+abbrev pub ins : Function
 ins = record {
   name = codes "ins";
   parameters = 0;
@@ -71,7 +71,7 @@ ins = record {
       ∷ []);
 }
 
-abbrev sort : Function
+abbrev pub sort : Function
 sort = record {
   name = codes "sort";
   parameters = 0;
@@ -80,7 +80,7 @@ sort = record {
   body = recursive 1 (nil ∷ call 1 (two (free 1) (call 2 (one (free 2)))) ∷ []);
 }
 
-abbrev sum : Function
+abbrev pub sum : Function
 sum = record {
   name = codes "sum";
   parameters = 0;
@@ -89,11 +89,11 @@ sum = record {
   body = recursive 1 (literal 0 ∷ op plus (two (op successor (one (free 1))) (call 3 (one (free 1)))) ∷ []);
 }
 
-abbrev double : Function
+abbrev pub double : Function
 double = record { name = codes "double"; parameters = 0; arguments = nat ∷ []; answer = nat; body = plain (op plus (two (free 1) (free 1))) }
 
 -- no accepted theory has it: it calls itself at its whole argument
-abbrev endless : Function
+abbrev pub endless : Function
 endless = record {
   name = codes "endless";
   parameters = 0;
@@ -102,7 +102,7 @@ endless = record {
   body = recursive 1 (literal 0 ∷ call 5 (one (op successor (one (free 1)))) ∷ []);
 }
 
-abbrev sorting : Theory
+abbrev pub sorting : Theory
 sorting = record {
   name = codes "Sorting";
   datatypes = lists ∷ trees_of_naturals ∷ pairs ∷ [];
@@ -254,10 +254,10 @@ not_shallow : ¬ (IsShallow 2 (numbers (4 ∷ 5 ∷ []) ∷ []))
 not_shallow h = omega (arith, h.0)
 
 -- value typing, also at a polymorphic constructor, and a closed type
-abbrev nil_of : Owned
+abbrev pub nil_of : Owned
 nil_of = record { datatype = 1; constructor = record { name = codes "Nil"; arguments = [] } }
 
-abbrev cons_of : Owned
+abbrev pub cons_of : Owned
 cons_of = record { datatype = 1; constructor = record { name = codes "Cons"; arguments = parameter 1 ∷ list_of (parameter 1) ∷ [] } }
 
 a_list : HasType sorting (numbers []) (list_of nat)

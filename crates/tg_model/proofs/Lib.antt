@@ -3,6 +3,7 @@ pub mod Freshness
 pub mod Inhabited
 pub mod Instances
 pub mod Keeping
+pub mod KnownTypings
 pub mod KnownValues
 pub mod Numbering
 pub mod Places
@@ -11,5 +12,7 @@ pub mod SameValue
 pub mod Substitutions
 pub mod TermSoundness
 pub mod TheorySoundness
+pub mod TypedSubstitutions
+pub mod TypedWalks
 pub mod ValueTyping
 pub mod Walks

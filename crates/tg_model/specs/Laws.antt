@@ -6,7 +6,7 @@ use Rattle.tg_model.specs.Formula.{Formula}
 use Rattle.tg_model.specs.Value.{Value, size, same_value}
 use Rattle.tg_model.specs.Theory.{Theory, Function, numbered, IsClosed, AreClosed}
 use Rattle.tg_model.specs.Typing.{HasType, AreTyped}
-use Rattle.tg_model.specs.TermTyping.{IsTyped}
+use Rattle.tg_model.specs.TermTyping.{IsTyped, AreListTyped, IsWellFormed}
 use Rattle.tg_model.specs.WellTyped.{IsWellTyped}
 use Rattle.tg_model.specs.Truth.{Holds}
 use Rattle.tg_model.specs.Uses.{uses, uses_in_formula, AgreeWhere}
@@ -86,3 +86,35 @@ DependsOnUsed = (th : Theory) (tb : Table) (env env' loc : List Value) (t : Tree
 abbrev pub TruthDependsOnUsed : Type 0
 TruthDependsOnUsed = (th : Theory) (tb : Table) (env env' loc : List Value) (f : Formula) → AgreeWhere (λ m. uses_in_formula m f) env env'
     → Holds th tb env loc f ↔ Holds th tb env' loc f
+
+-- Substitution keeps types: the lifted, substituted, instantiated or abstracted term has every type of the term.
+abbrev pub LiftingKeepsTypes : Type 0
+LiftingKeepsTypes = (th : Theory) (vars between locs : List Ty) (t : Tree) (u : Ty)
+    → IsTyped th vars locs t u → IsTyped th vars (between ++ locs) (lifted (length between) t) u
+
+abbrev pub SubstitutionKeepsTypes : Type 0
+SubstitutionKeepsTypes = (th : Theory) (vars locs ts : List Ty) (us : List Tree) (t : Tree) (u : Ty) → AreListTyped th vars locs us ts
+    → IsTyped th ts locs t u → IsTyped th vars locs (substituted us t) u
+
+abbrev pub InstantiationKeepsTypes : Type 0
+InstantiationKeepsTypes = (th : Theory) (vars locs ts : List Ty) (us : List Tree) (t : Tree) (u : Ty) → AreListTyped th vars locs us ts
+    → IsTyped th vars (reverse ts ++ locs) t u → IsTyped th vars locs (instantiated us t) u
+
+abbrev pub AbstractionKeepsTypes : Type 0
+AbstractionKeepsTypes = (th : Theory) (vars vars' locs : List Ty) (n : ℕ) (s : Ty) (t : Tree) (u : Ty)
+    → numbered vars n ≡ Some s → ((m : ℕ) → m ≢ n → numbered vars' m ≡ numbered vars m)
+    → IsTyped th vars locs t u → IsTyped th vars' (s ∷ locs) (abstracted n t) u
+
+-- The same of formulas: well-formedness is kept.
+abbrev pub SubstitutionKeepsForm : Type 0
+SubstitutionKeepsForm = (th : Theory) (vars locs ts : List Ty) (us : List Tree) (f : Formula) → AreListTyped th vars locs us ts
+    → IsWellFormed th ts locs f → IsWellFormed th vars locs (substituted_formula us f)
+
+abbrev pub InstantiationKeepsForm : Type 0
+InstantiationKeepsForm = (th : Theory) (vars locs ts : List Ty) (us : List Tree) (f : Formula) → AreListTyped th vars locs us ts
+    → IsWellFormed th vars (reverse ts ++ locs) f → IsWellFormed th vars locs (instantiated_formula us f)
+
+abbrev pub AbstractionKeepsForm : Type 0
+AbstractionKeepsForm = (th : Theory) (vars vars' locs : List Ty) (n : ℕ) (s : Ty) (f : Formula)
+    → numbered vars n ≡ Some s → ((m : ℕ) → m ≢ n → numbered vars' m ≡ numbered vars m)
+    → IsWellFormed th vars locs f → IsWellFormed th vars' (s ∷ locs) (abstracted_formula n f)

@@ -117,6 +117,11 @@ module _ (th : Theory) (vars : List Ty) where
   AllTyped locs (tree.more t ts) (u ∷ us) = IsTyped locs t u × AllTyped locs ts us
   AllTyped locs _ _ = ⊥
 
+  abbrev pub AreListTyped : List Ty → List Tree → List Ty → Type 0
+  AreListTyped locs [] [] = Unit {0}
+  AreListTyped locs (t ∷ ts) (u ∷ us) = IsTyped locs t u × AreListTyped locs ts us
+  AreListTyped locs _ _ = ⊥
+
   -- each term is typed by itself, quantified types are closed
   abbrev pub IsWellFormed : List Ty → Formula → Type 0
   IsWellFormed locs (atom t) = IsTyped locs t bool

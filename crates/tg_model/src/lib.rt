@@ -6,6 +6,8 @@
 ghost use Rattle.tg_model.specs.Laws.{UnfoldsRecursion, UnfoldsCalls, DecidesEquality, IsTypeSound};
 ghost use Rattle.tg_model.specs.Laws.{LiftingKeeps, SubstitutionKeeps, InstantiationKeeps, AbstractionKeeps};
 ghost use Rattle.tg_model.specs.Laws.{SubstitutionKeepsTruth, InstantiationKeepsTruth, AbstractionKeepsTruth};
+ghost use Rattle.tg_model.specs.Laws.{LiftingKeepsTypes, SubstitutionKeepsTypes, InstantiationKeepsTypes, AbstractionKeepsTypes};
+ghost use Rattle.tg_model.specs.Laws.{SubstitutionKeepsForm, InstantiationKeepsForm, AbstractionKeepsForm};
 ghost use Rattle.tg_model.specs.Laws.{DependsOnUsed, TruthDependsOnUsed};
 
 /// The meaning of calls, as equations: a primitive recursive call is the body of its constructor's case,
@@ -43,6 +45,23 @@ pub fn substitution_in_formulas()
     ensures substitution { SubstitutionKeepsTruth }
     ensures instantiation { InstantiationKeepsTruth }
     ensures abstraction { AbstractionKeepsTruth }
+{
+}
+
+/// Substitution keeps types.
+pub fn substitution_and_types()
+    ensures lifting { LiftingKeepsTypes }
+    ensures substitution { SubstitutionKeepsTypes }
+    ensures instantiation { InstantiationKeepsTypes }
+    ensures abstraction { AbstractionKeepsTypes }
+{
+}
+
+/// Substitution in formulas keeps well-formedness.
+pub fn substitution_and_form()
+    ensures substitution { SubstitutionKeepsForm }
+    ensures instantiation { InstantiationKeepsForm }
+    ensures abstraction { AbstractionKeepsForm }
 {
 }
 
