@@ -34,7 +34,7 @@ module _ (th : Theory) (tb : Table) (wt : IsWellTyped th) (answered : (vs : List
       → HasType th ((world_below th tb n).answers vs) (instance us th.program.answer)
   program_answers n us vs h =
       subst (λ (t : Ty). HasType th ((world_below th tb n).answers vs) t) (sym (closed_instance th us th.program.answer wt.answer))
-        (subst (λ (v : Value). HasType th v th.program.answer) (sym (world_answers th tb n vs)) (answered vs))
+      (subst (λ (v : Value). HasType th v th.program.answer) (sym (world_answers th tb n vs)) (answered vs))
 
   -- calls of the functions up to `n` give values of their types
   abbrev CallsTyped : ℕ → Type 0
@@ -45,14 +45,13 @@ module _ (th : Theory) (tb : Table) (wt : IsWellTyped th) (answered : (vs : List
       → EachCall (λ f ts. f < suc n) t → IsTyped th vars [] t u → HasType th (value_in (world_below th tb n) env [] t) (instance us u)
   typed_term n us vars env t u calls typed each d =
       subst (λ (x : Ty). HasType th (value_in (world_below th tb n) env [] t) (instance us x)) d.2
-        (sound th (world_below th tb n) us vars env (world_first th tb n) typed (program_answers n us) (λ f ts. f < suc n)
-          (λ loc f ts x vs low is args. calls f x vs (values_in (world_below th tb n) env loc ts) (omega arith) is args) t d.0 [] [] tt each d.1)
+      (sound th (world_below th tb n) us vars env (world_first th tb n) typed (program_answers n us) (λ f ts. f < suc n)
+      (λ loc f ts x vs low is args. calls f x vs (values_in (world_below th tb n) env loc ts) (omega arith) is args) t d.0 [] [] tt each d.1)
 
   -- the recursive function of number `n + 1`
   module _ (n : ℕ) (calls : CallsTyped n) (x : Function) (is_function : numbered th.functions (suc n) ≡ Some x) (place : ℕ) (cases : List Tree)
       (d : ℕ) (args : List Ty) (at_place : numbered x.arguments place ≡ Some (datatype_at d args)) (is_datatype : IsDatatype th d args)
       (are_cases : AreCases th (suc n) x place cases (constructor_arguments th d args)) where
-
     abbrev w : World
     w = world_below th tb n
 
@@ -78,26 +77,26 @@ module _ (th : Theory) (tb : Table) (wt : IsWellTyped th) (answered : (vs : List
         let ws = values_in (inner m vs) (others vs place ++ parts) loc ts in
         let other : nat_eq f (suc n) ≡ false = ne_eqb f (suc n) (λ e. omega arith) in
         subst (λ (v : Value). HasType th v (instance us' y.answer)) (sym (if_false _ (w.calls f ws) (nat_eq f (suc n)) other))
-          (calls f y us' ws (omega arith) is typed)
+        (calls f y us' ws (omega arith) is typed)
     allowed_call m typed_below us vs parts k is_opened low start count s c loc f ts y us' (inr (e, (i, within, variable))) is typed =
         let env = others vs place ++ parts in
         let ws = values_in (inner m vs) env loc ts in
         let part = found parts i (omega (arith, c)) in
         let there : slice_get env (start + i) ≡ Some part.0 =
-            let swap : start + i ≡ i + length (others vs place) = omega (arith, s) in
-            ap (slice_get env) swap ∙ (get_right (others vs place) parts i ∙ part.1) in
+        let swap : start + i ≡ i + length (others vs place) = omega (arith, s) in
+        ap (slice_get env) swap ∙ (get_right (others vs place) parts i ∙ part.1) in
         let argument : place_of ws place ≡ part.0 =
-            ap (λ (o : Option Value). unwrap_or o wrong) (listed_value (inner m vs) env loc ts place ∙ ap (option_map (value_in (inner m vs) env loc)) variable)
-              ∙ ap (λ (o : Option Value). unwrap_or o wrong) there in
+        ap (λ (o : Option Value). unwrap_or o wrong) (listed_value (inner m vs) env loc ts place ∙ ap (option_map (value_in (inner m vs) env loc)) variable)
+        ∙ ap (λ (o : Option Value). unwrap_or o wrong) there in
         let falls : size (place_of ws place) < size (place_of vs place) =
-            let h = smaller d (first_constructor th.datatypes d) (place_of vs place) k parts is_opened i part.0 part.1 in
-            subst (λ (v : Value). size v < size (place_of vs place)) (sym argument) h in
+        let h = smaller d (first_constructor th.datatypes d) (place_of vs place) k parts is_opened i part.0 part.1 in
+        subst (λ (v : Value). size v < size (place_of vs place)) (sym argument) h in
         let same_function : x ≡ y = let g : Some x ≡ Some y = sym is_function ∙ (ap (numbered th.functions) (sym e) ∙ is) in cc in
         let own : nat_eq f (suc n) ≡ true = eq-eqb f (suc n) e in
         subst (λ (v : Value). HasType th v (instance us' y.answer))
-          (sym (if_true _ (w.calls f ws) (nat_eq f (suc n)) own ∙ if_true (value_at m ws) wrong (nat_lt (size (place_of ws place)) (size (place_of vs place))) (lt-ltb _ _ falls)))
-          (subst (λ (z : Function). HasType th (value_at m ws) (instance us' z.answer)) same_function
-            (typed_below us' ws (subst (λ (z : Function). AreTyped th ws (map (instance us') z.arguments)) (sym same_function) typed) (omega arith)))
+        (sym (if_true _ (w.calls f ws) (nat_eq f (suc n)) own ∙ if_true (value_at m ws) wrong (nat_lt (size (place_of ws place)) (size (place_of vs place))) (lt-ltb _ _ falls)))
+        (subst (λ (z : Function). HasType th (value_at m ws) (instance us' z.answer)) same_function
+        (typed_below us' ws (subst (λ (z : Function). AreTyped th ws (map (instance us') z.arguments)) (sym same_function) typed) (omega arith)))
       where
         found : (vs : List Value) (i : ℕ) → i < length vs → (v : Value) × (slice_get vs i ≡ Some v)
         found [] i h = absurd (omega arith)
@@ -114,36 +113,36 @@ module _ (th : Theory) (tb : Table) (wt : IsWellTyped th) (answered : (vs : List
     value_typed (suc m) us vs typed low =
         let v = place_of vs place in
         let scrutinee : HasType th v (datatype_at d (map (instance us) args)) =
-            subst (λ (t : Ty). HasType th v t) (datatype_instance us d args) (typed_place th (instance us) place vs x.arguments (datatype_at d args) typed at_place) in
+        subst (λ (t : Ty). HasType th v t) (datatype_instance us d args) (typed_place th (instance us) place vs x.arguments (datatype_at d args) typed at_place) in
         let o = opens th d (map (instance us) args) v (is_datatype_instance th us d args is_datatype) scrutinee in
         let declared = mapped_back (map (instance us)) (slice_get (constructor_arguments th d args) o.place) o.arguments
-            (sym (slice_get-map (map (instance us)) (constructor_arguments th d args) o.place)
-              ∙ (ap (λ l. slice_get l o.place) (sym (arguments_composed th us d args)) ∙ o.found)) in
+        (sym (slice_get-map (map (instance us)) (constructor_arguments th d args) o.place)
+        ∙ (ap (λ l. slice_get l o.place) (sym (arguments_composed th us d args)) ∙ o.found)) in
         let c = case_at th (suc n) x place cases (constructor_arguments th d args) o.place declared.0 are_cases declared.1 in
         let taken : opened d (w.first d) v ≡ Some (o.place, o.parts) = ap (λ k. opened d k v) (world_first th tb n d) ∙ o.is in
         let parts : AreTyped th o.parts (map (instance us) declared.0) = subst (λ (ts : List Ty). AreTyped th o.parts ts) (sym declared.2) o.typed in
         let rest : AreTyped th (others vs place) (map (instance us) (others x.arguments place)) = typed_others th (instance us) place vs x.arguments typed in
         let env : AreTyped th (others vs place ++ o.parts) (map (instance us) (others x.arguments place ++ declared.0)) =
-            subst (λ (ts : List Ty). AreTyped th (others vs place ++ o.parts) ts) (sym (map-append (instance us) (others x.arguments place) declared.0))
-              (typed_append th (others vs place) o.parts (map (instance us) (others x.arguments place)) (map (instance us) declared.0) rest parts) in
+        subst (λ (ts : List Ty). AreTyped th (others vs place ++ o.parts) ts) (sym (map-append (instance us) (others x.arguments place) declared.0))
+        (typed_append th (others vs place) o.parts (map (instance us) (others x.arguments place)) (map (instance us) declared.0) rest parts) in
         let start = typed_length th (others vs place) (map (instance us) (others x.arguments place)) rest ∙ length-map (others x.arguments place) (instance us) in
         let count = typed_length th o.parts (map (instance us) declared.0) parts ∙ length-map declared.0 (instance us) in
         let body = sound th (inner m vs) us (others x.arguments place ++ declared.0) (others vs place ++ o.parts) (world_first th tb n) env (program_answers n us)
-            (IsLower (suc n) place (length (others x.arguments place)) (length declared.0))
-            (allowed_call m (value_typed m) us vs o.parts o.place o.is low (length (others x.arguments place)) (length declared.0) start count)
-            c.0 c.3.0 [] [] tt c.2 c.3.1 in
+        (IsLower (suc n) place (length (others x.arguments place)) (length declared.0))
+        (allowed_call m (value_typed m) us vs o.parts o.place o.is low (length (others x.arguments place)) (length declared.0) start count)
+        c.0 c.3.0 [] [] tt c.2 c.3.1 in
         subst (λ (z : Value). HasType th z (instance us x.answer))
-          (sym (ap (case_of m vs) taken ∙ ap (λ (t : Option Tree). option_map_or (λ t. value_in (inner m vs) (others vs place ++ o.parts) [] t) t wrong) c.1))
-          (subst (λ (t : Ty). HasType th (value_in (inner m vs) (others vs place ++ o.parts) [] c.0) (instance us t)) c.3.2 body)
+        (sym (ap (case_of m vs) taken ∙ ap (λ (t : Option Tree). option_map_or (λ t. value_in (inner m vs) (others vs place ++ o.parts) [] t) t wrong) c.1))
+        (subst (λ (t : Ty). HasType th (value_in (inner m vs) (others vs place ++ o.parts) [] c.0) (instance us t)) c.3.2 body)
 
   body_typed : (n : ℕ) → CallsTyped n → (x : Function) → numbered th.functions (suc n) ≡ Some x → (b : Body) → IsBody th (suc n) x b
       → (us : List Ty) (vs : List Value) → AreTyped th vs (map (instance us) x.arguments) → HasType th (body_value (world_below th tb n) (suc n) x b vs) (instance us x.answer)
   body_typed n calls x is (plain t) h us vs typed = typed_term n us x.arguments vs t x.answer calls typed h.0 h.1
   body_typed n calls x is (recursive place cases) (d, args, at_place, is_datatype, are_cases) us vs typed =
       let number : option_map_or datatype_of (numbered x.arguments place) 0 ≡ d =
-          ap (λ (o : Option Ty). option_map_or datatype_of o 0) at_place ∙ datatype_of_at d args in
+      ap (λ (o : Option Ty). option_map_or datatype_of o 0) at_place ∙ datatype_of_at d args in
       subst (λ (e : ℕ). HasType th (recursive_value (world_below th tb n) (suc n) place e cases (suc (size (place_of vs place))) vs) (instance us x.answer)) (sym number)
-        (value_typed n calls x is place cases d args at_place is_datatype are_cases (suc (size (place_of vs place))) us vs typed (omega arith))
+      (value_typed n calls x is place cases d args at_place is_datatype are_cases (suc (size (place_of vs place))) us vs typed (omega arith))
 
   abbrev called_at : ℕ → List Value → Option Function → Value
   called_at n vs o = option_map_or (λ (y : Function). body_value (world_below th tb n) (suc n) y y.body vs) o wrong
@@ -153,26 +152,27 @@ module _ (th : Theory) (tb : Table) (wt : IsWellTyped th) (answered : (vs : List
       → AreTyped th vs (map (instance us) x.arguments) → HasType th ((world_below th tb (suc n)).calls (suc n) vs) (instance us x.answer)
   last_typed n calls x us vs is typed =
       subst (λ (v : Value). HasType th v (instance us x.answer))
-        (sym (if_true (called_at n vs (numbered th.functions (suc n))) ((world_below th tb n).calls (suc n) vs) (nat_eq (suc n) (suc n)) (eq-eqb (suc n) (suc n) refl)
-          ∙ ap (called_at n vs) is))
-        (body_typed n calls x is x.body (wt.functions (suc n) x is) us vs typed)
+      (sym (if_true (called_at n vs (numbered th.functions (suc n))) ((world_below th tb n).calls (suc n) vs) (nat_eq (suc n) (suc n)) (eq-eqb (suc n) (suc n) refl)
+      ∙ ap (called_at n vs) is))
+      (body_typed n calls x is x.body (wt.functions (suc n) x is) us vs typed)
 
   earlier_typed : (n : ℕ) → CallsTyped n → (f : ℕ) (x : Function) (us : List Ty) (vs : List Value) → f ≤ n → nat_eq f (suc n) ≡ false → numbered th.functions f ≡ Some x
       → AreTyped th vs (map (instance us) x.arguments) → HasType th ((world_below th tb (suc n)).calls f vs) (instance us x.answer)
   earlier_typed n calls f x us vs low other is typed =
       subst (λ (v : Value). HasType th v (instance us x.answer))
-        (sym (if_false (option_map_or (λ (y : Function). body_value (world_below th tb n) f y y.body vs) (numbered th.functions f) wrong)
-          ((world_below th tb n).calls f vs) (nat_eq f (suc n)) other))
-        (calls f x us vs low is typed)
+      (sym (if_false (option_map_or (λ (y : Function). body_value (world_below th tb n) f y y.body vs) (numbered th.functions f) wrong)
+      ((world_below th tb n).calls f vs) (nat_eq f (suc n)) other))
+      (calls f x us vs low is typed)
 
   calls_typed : (n : ℕ) → CallsTyped n
   calls_typed zero zero x us vs low is typed = cc is
   calls_typed zero (suc f) x us vs low is typed = absurd (omega arith)
   calls_typed (suc n) f x us vs low is typed =
       elim (eqb_tells f (suc n)) [
-        inl p ↦ subst (λ (g : ℕ). HasType th ((world_below th tb (suc n)).calls g vs) (instance us x.answer)) (sym p.1)
-          (last_typed n (calls_typed n) x us vs (ap (numbered th.functions) (sym p.1) ∙ is) typed)
-        | inr p ↦ earlier_typed n (calls_typed n) f x us vs (omega (arith, p.1)) p.0 is typed ]
+        | inl p ↦ subst (λ (g : ℕ). HasType th ((world_below th tb (suc n)).calls g vs) (instance us x.answer)) (sym p.1)
+            (last_typed n (calls_typed n) x us vs (ap (numbered th.functions) (sym p.1) ∙ is) typed)
+        | inr p ↦ earlier_typed n (calls_typed n) f x us vs (omega (arith, p.1)) p.0 is typed
+      ]
 
   mutual
     any_call : (t : Tree) → EachCall (λ f ts. Unit {0}) t
@@ -200,11 +200,11 @@ module _ (th : Theory) (tb : Table) (wt : IsWellTyped th) (answered : (vs : List
       → AreTyped th env vars → AreTyped th loc locs → IsTyped th vars locs t u → HasType th (den th tb env loc t) u
   term_typed vars locs env loc t u closed_vars closed_locs closed_u typed_env typed_loc (d, h, e) =
       let here : HasType th (den th tb env loc t) (instance [] (type_of d)) =
-          sound th (world th tb) [] vars env (world_first th tb (length th.functions))
-            (subst (λ (ts : List Ty). AreTyped th env ts) (sym (list_closed_instance th [] vars closed_vars)) typed_env)
-            (program_answers (length th.functions) []) (λ f ts. Unit {0})
-            (λ l f ts x vs allowed is args. calls_typed (length th.functions) f x vs (values_in (world th tb) env l ts) (declared f x is) is args)
-            t d locs loc (subst (λ (ts : List Ty). AreTyped th loc ts) (sym (list_closed_instance th [] locs closed_locs)) typed_loc) (any_call t) h in
+      sound th (world th tb) [] vars env (world_first th tb (length th.functions))
+      (subst (λ (ts : List Ty). AreTyped th env ts) (sym (list_closed_instance th [] vars closed_vars)) typed_env)
+      (program_answers (length th.functions) []) (λ f ts. Unit {0})
+      (λ l f ts x vs allowed is args. calls_typed (length th.functions) f x vs (values_in (world th tb) env l ts) (declared f x is) is args)
+      t d locs loc (subst (λ (ts : List Ty). AreTyped th loc ts) (sym (list_closed_instance th [] locs closed_locs)) typed_loc) (any_call t) h in
       subst (λ (x : Ty). HasType th (den th tb env loc t) x) (ap (instance []) e ∙ closed_instance th [] u closed_u) here
     where
       declared : (f : ℕ) (x : Function) → numbered th.functions f ≡ Some x → f ≤ length th.functions

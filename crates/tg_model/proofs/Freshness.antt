@@ -42,25 +42,25 @@ module _ (w : World) (env env' : List Value) where
     same_value_of (choice ts) loc h = ap chosen (same_values_of ts loc h)
     same_value_of (case d t arms) loc h =
         ap (λ v. after_case arms env loc (opened d (w.first d) v)) (same_value_of t loc (λ m e. h m (or_left (uses m t) (use_branch m arms) e)))
-          ∙ by_branch _ _ (λ k vs. same_branch_of arms loc k vs (λ m e. h m (or_right (uses m t) (use_branch m arms) e)))
-              (opened d (w.first d) (value_in w env' loc t))
+        ∙ by_branch _ _ (λ k vs. same_branch_of arms loc k vs (λ m e. h m (or_right (uses m t) (use_branch m arms) e)))
+        (opened d (w.first d) (value_in w env' loc t))
     same_value_of (bind t body) loc h =
         ap (λ v. value_in w env (v ∷ loc) body) (same_value_of t loc (λ m e. h m (or_left (uses m t) (uses m body) e)))
-          ∙ same_value_of body (value_in w env' loc t ∷ loc) (λ m e. h m (or_right (uses m t) (uses m body) e))
+        ∙ same_value_of body (value_in w env' loc t ∷ loc) (λ m e. h m (or_right (uses m t) (uses m body) e))
     same_value_of (op o ts) loc h = ap (operated o) (same_values_of ts loc h)
 
     pub same_values_of : (ts : Trees) (loc : List Value) → Agrees (λ m. use_any m ts) → values_in w env loc ts ≡ values_in w env' loc ts
     same_values_of tree.none loc h = refl
     same_values_of (tree.more t ts) loc h =
         λ i. same_value_of t loc (λ m e. h m (or_left (uses m t) (use_any m ts) e)) i
-          ∷ same_values_of ts loc (λ m e. h m (or_right (uses m t) (use_any m ts) e)) i
+        ∷ same_values_of ts loc (λ m e. h m (or_right (uses m t) (use_any m ts) e)) i
 
     same_branch_of : (arms : Arms) (loc : List Value) (k : ℕ) (vs : List Value) → Agrees (λ m. use_branch m arms)
         → branch_in w env loc k vs arms ≡ branch_in w env' loc k vs arms
     same_branch_of end loc k vs h = refl
     same_branch_of (arm n body arms) loc zero vs h =
         if_same _ _ wrong (nat_eq n (length vs)) (λ e.
-          same_value_of body (reverse vs ++ loc) (λ m u. h m (or_left (uses m body) (use_branch m arms) u)))
+        same_value_of body (reverse vs ++ loc) (λ m u. h m (or_left (uses m body) (use_branch m arms) u)))
     same_branch_of (arm n body arms) loc (suc k) vs h = same_branch_of arms loc k vs (λ m u. h m (or_right (uses m body) (use_branch m arms) u))
 
 module _ (th : Theory) (tb : Table) (env env' : List Value) where
@@ -68,10 +68,10 @@ module _ (th : Theory) (tb : Table) (env env' : List Value) where
   same_truth_of (atom t) loc h = ap (λ v. v ≡ boolean true) (same_value_of (world th tb) env env' t loc h)
   same_truth_of (both f g) loc h =
       λ i. same_truth_of f loc (λ m e. h m (or_left (uses_in_formula m f) (uses_in_formula m g) e)) i
-        × same_truth_of g loc (λ m e. h m (or_right (uses_in_formula m f) (uses_in_formula m g) e)) i
+      × same_truth_of g loc (λ m e. h m (or_right (uses_in_formula m f) (uses_in_formula m g) e)) i
   same_truth_of (implies f g) loc h =
       λ i. same_truth_of f loc (λ m e. h m (or_left (uses_in_formula m f) (uses_in_formula m g) e)) i
-        → same_truth_of g loc (λ m e. h m (or_right (uses_in_formula m f) (uses_in_formula m g) e)) i
+      → same_truth_of g loc (λ m e. h m (or_right (uses_in_formula m f) (uses_in_formula m g) e)) i
   same_truth_of (all t f) loc h = λ i. (v : Value) → HasType th v t → same_truth_of f (v ∷ loc) h i
   same_truth_of (some t f) loc h = λ i. (v : Value) × HasType th v t × same_truth_of f (v ∷ loc) h i
   same_truth_of (thyp f) loc h = same_truth_of f loc h

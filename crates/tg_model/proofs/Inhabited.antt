@@ -27,8 +27,8 @@ numbered_from e (y ∷ ds) zero x j k is h =
     let index : 0 + j ≡ j = omega arith in
     let sum : e ≡ e + 0 = omega arith in
     ap (slice_get (map (owned e) y.constructors ++ constructors_from (suc e) ds)) index
-      ∙ (get_left (map (owned e) y.constructors) (constructors_from (suc e) ds) j within
-        ∙ (slice_get-map (owned e) y.constructors j ∙ (ap (option_map (owned e)) own ∙ ap (λ n. Some (owned n k)) sum)))
+    ∙ (get_left (map (owned e) y.constructors) (constructors_from (suc e) ds) j within
+    ∙ (slice_get-map (owned e) y.constructors j ∙ (ap (option_map (owned e)) own ∙ ap (λ n. Some (owned n k)) sum)))
 numbered_from e (y ∷ ds) (suc place) x j k is h =
     let count = length-map y.constructors (owned e) in
     let before = constructors_before place ds in
@@ -36,7 +36,7 @@ numbered_from e (y ∷ ds) (suc place) x j k is h =
     let index : length y.constructors + before + j - length (map (owned e) y.constructors) ≡ before + j = omega (arith, count) in
     let sum : suc e + place ≡ e + suc place = omega arith in
     get_past (map (owned e) y.constructors) (constructors_from (suc e) ds) (length y.constructors + before + j) past
-      ∙ (ap (slice_get (constructors_from (suc e) ds)) index ∙ (numbered_from (suc e) ds place x j k is h ∙ ap (λ n. Some (owned n k)) sum))
+    ∙ (ap (slice_get (constructors_from (suc e) ds)) index ∙ (numbered_from (suc e) ds place x j k is h ∙ ap (λ n. Some (owned n k)) sum))
 
 constructor_number : (th : Theory) (place : ℕ) (x : Datatype) (j : ℕ) (k : Constructor) → slice_get th.datatypes place ≡ Some x → slice_get x.constructors j ≡ Some k
     → constructor_at th (first_constructor th.datatypes (suc place) + j) ≡ Some (owned (suc place) k)
@@ -71,7 +71,7 @@ typed_parameter th (v ∷ vs) (u ∷ us) (suc i) h low = typed_parameter th vs u
 -- the least values of earlier types, where those of earlier datatypes are given
 module _ (th : Theory) (d : ℕ) (below : ℕ → List Value → Value)
     (typed_below : (e : ℕ) (x : Datatype) (ts : List Ty) (ws : List Value) → e < d → numbered th.datatypes e ≡ Some x → length ts ≡ x.parameters → AreTyped th ws ts
-      → HasType th (below e ws) (applied e (tys ts)))
+    → HasType th (below e ws) (applied e (tys ts)))
     (us : List Ty) (vs : List Value) (typed : AreTyped th vs us) where
   mutual
     least_typed : (t : Ty) → IsBefore th d (length us) t → HasType th (least_at below vs t) (instance us t)
@@ -82,8 +82,8 @@ module _ (th : Theory) (d : ℕ) (below : ℕ → List Value → Value)
     least_typed (meta n) h = absurd h
     least_typed (applied e ts) h =
         subst (λ (x : Tys). HasType th (below e (all_least below vs ts)) (applied e x)) (sym (instances_listed us ts))
-          (typed_below e h.0.1.0 (map (instance us) (types.listed ts)) (all_least below vs ts) h.0.0 h.0.1.1
-            (length-map (types.listed ts) (instance us) ∙ h.0.1.2) (all_least_typed ts h.1))
+        (typed_below e h.0.1.0 (map (instance us) (types.listed ts)) (all_least below vs ts) h.0.0 h.0.1.1
+        (length-map (types.listed ts) (instance us) ∙ h.0.1.2) (all_least_typed ts h.1))
 
     all_least_typed : (ts : Tys) → AreBefore th d (length us) ts → AreTyped th (all_least below vs ts) (map (instance us) (types.listed ts))
     all_least_typed types.none h = tt
@@ -143,8 +143,8 @@ module _ (th : Theory) (wt : IsWellTyped th) where
   abbrev made_from : ℕ → ℕ → List Value → Option Datatype → Value
   made_from n d ws o = option_map_or
       (λ (x : Datatype). option_map_or
-        (λ (p : ℕ × Constructor). made p.0 (values (map (least_at (below n) ws) p.1.arguments)))
-        (base_constructor d (first_constructor th.datatypes d) x.constructors) wrong)
+      (λ (p : ℕ × Constructor). made p.0 (values (map (least_at (below n) ws) p.1.arguments)))
+      (base_constructor d (first_constructor th.datatypes d) x.constructors) wrong)
       o wrong
 
   abbrev LeastTyped : ℕ → Type 0
@@ -158,13 +158,13 @@ module _ (th : Theory) (wt : IsWellTyped th) where
       let k = inhabited.constructor in
       let base = base_place (suc place) (first_constructor th.datatypes (suc place)) x.constructors inhabited.number k inhabited.base in
       let at : constructor_at th inhabited.number ≡ Some (owned (suc place) k) =
-          ap (constructor_at th) base.1 ∙ constructor_number th place x base.0 k is base.2 in
+      ap (constructor_at th) base.1 ∙ constructor_number th place x base.0 k is base.2 in
       let before : AreBefore th (suc place) (length ts) (tys k.arguments) =
-          subst (λ (m : ℕ). AreBefore th (suc place) m (tys k.arguments)) (sym count) inhabited.before in
+      subst (λ (m : ℕ). AreBefore th (suc place) m (tys k.arguments)) (sym count) inhabited.before in
       let arguments = list_least_typed th (suc place) (below n)
-          (λ f y us vs low. lower f y us vs (omega (arith, e))) ts ws typed k.arguments before in
+      (λ f y us vs low. lower f y us vs (omega (arith, e))) ts ws typed k.arguments before in
       subst (λ (o : Option (ℕ × Constructor)). HasType th (option_map_or (λ (p : ℕ × Constructor). made p.0 (values (map (least_at (below n) ws) p.1.arguments))) o wrong) (applied (suc place) (tys ts)))
-        (sym inhabited.base) (owned (suc place) k, at, (ts, refl, arguments))
+      (sym inhabited.base) (owned (suc place) k, at, (ts, refl, arguments))
 
   least_below_typed : (n : ℕ) → LeastTyped n
   least_below_typed zero zero x ts ws low is count typed = cc is
@@ -172,12 +172,13 @@ module _ (th : Theory) (wt : IsWellTyped th) where
   least_below_typed (suc n) zero x ts ws low is count typed = cc is
   least_below_typed (suc n) (suc place) x ts ws low is count typed =
       elim (eqb_tells (suc place) (suc n)) [
-        inl p ↦ subst (λ (v : Value). HasType th v (applied (suc place) (tys ts)))
-          (sym (if_true (made_from n (suc place) ws (slice_get th.datatypes place)) (below n (suc place) ws) (nat_eq (suc place) (suc n)) p.0 ∙ ap (made_from n (suc place) ws) is))
-          (made_typed n place x ts ws p.1 (least_below_typed n) is count typed)
+        | inl p ↦ subst (λ (v : Value). HasType th v (applied (suc place) (tys ts)))
+            (sym (if_true (made_from n (suc place) ws (slice_get th.datatypes place)) (below n (suc place) ws) (nat_eq (suc place) (suc n)) p.0 ∙ ap (made_from n (suc place) ws) is))
+            (made_typed n place x ts ws p.1 (least_below_typed n) is count typed)
         | inr p ↦ subst (λ (v : Value). HasType th v (applied (suc place) (tys ts)))
-          (sym (if_false (made_from n (suc place) ws (slice_get th.datatypes place)) (below n (suc place) ws) (nat_eq (suc place) (suc n)) p.0))
-          (least_below_typed n (suc place) x ts ws (omega (arith, p.1)) is count typed) ]
+            (sym (if_false (made_from n (suc place) ws (slice_get th.datatypes place)) (below n (suc place) ws) (nat_eq (suc place) (suc n)) p.0))
+            (least_below_typed n (suc place) x ts ws (omega (arith, p.1)) is count typed)
+      ]
 
   pub least_has_type : (t : Ty) → IsClosed th t → HasType th (least th t) t
   least_has_type t closed =

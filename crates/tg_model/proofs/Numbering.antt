@@ -33,7 +33,7 @@ here : (e : ℕ) (x : Datatype) (ds : List Datatype) (rest : List Owned) (k : �
 here e x ds rest k o h low =
     let within : k < length (map (owned e) x.constructors) = omega (arith, length-map x.constructors (owned e)) in
     let found = mapped_some e (slice_get x.constructors k) o
-        (sym (slice_get-map (owned e) x.constructors k) ∙ (sym (get_left (map (owned e) x.constructors) rest k within) ∙ h)) in
+    (sym (slice_get-map (owned e) x.constructors k) ∙ (sym (get_left (map (owned e) x.constructors) rest k within) ∙ h)) in
     let first : k - 0 ≡ k = omega arith in
     let zeroth : e ≡ e + 0 = omega arith in
     record { place = 0; datatype = x; number = found.0 ∙ zeroth; is = refl; after = omega arith; constructor = ap (slice_get x.constructors) first ∙ found.1 }
@@ -62,8 +62,9 @@ pub placed : (e : ℕ) (ds : List Datatype) (k : ℕ) (o : Owned) → slice_get 
 placed e [] k o h = cc
 placed e (x ∷ ds) k o h =
     elim (cases_less k (length x.constructors)) [
-      inl low ↦ here e x ds (constructors_from (suc e) ds) k o h low
-      | inr far ↦ later e x ds k o far (placed (suc e) ds (k - length x.constructors) o (past e x (constructors_from (suc e) ds) k o h far)) ]
+      | inl low ↦ here e x ds (constructors_from (suc e) ds) k o h low
+      | inr far ↦ later e x ds k o far (placed (suc e) ds (k - length x.constructors) o (past e x (constructors_from (suc e) ds) k o h far))
+    ]
 
 -- of a constructor's number: its datatype has a number above 0, and its place there is counted from the datatype's first
 pub record Numbered (th : Theory) (c : ℕ) (o : Owned) : Type 0 where

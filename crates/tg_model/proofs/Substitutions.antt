@@ -30,7 +30,7 @@ under : (outer outer' : List Value) (d : ℕ) (loc loc' vs : List Value) → Ins
     → Inside outer outer' (d + length vs) (reverse vs ++ loc) (reverse vs ++ loc')
 under outer outer' d loc loc' vs r =
     let n : length (reverse vs ++ r.inner) ≡ d + length vs =
-        length-append (reverse vs) r.inner ∙ (let m = length-reverse vs in let c = r.count in let e : length (reverse vs) + length r.inner ≡ d + length vs = omega arith in e) in
+    length-append (reverse vs) r.inner ∙ (let m = length-reverse vs in let c = r.count in let e : length (reverse vs) + length r.inner ≡ d + length vs = omega arith in e) in
     record {
       inner = reverse vs ++ r.inner;
       count = n;
@@ -66,14 +66,14 @@ module _ (w : World) (env : List Value) (between outer : List Value) where
       → value_in w env loc' (raised (length between) d k) ≡ at loc k
   raised_keeps d loc loc' k r =
       pick (value_in w env loc') (nat_lt k d) (bound k) (bound (k + length between)) (at loc k)
-        (λ e. inside outer (between ++ outer) d loc loc' r k (ltb-true k d e))
-        (λ e. let far : d ≤ k = ltb-false k d e in
-          let past : length between ≤ k + length between - d = omega arith in
-          let same : k + length between - d - length between ≡ k - d = omega arith in
-          beyond' outer (between ++ outer) d loc loc' r (k + length between) (omega arith)
-            ∙ ap (λ o. unwrap_or o wrong) (get_past between outer (k + length between - d) past)
-            ∙ ap (at outer) same
-            ∙ sym (beyond outer (between ++ outer) d loc loc' r k far))
+      (λ e. inside outer (between ++ outer) d loc loc' r k (ltb-true k d e))
+      (λ e. let far : d ≤ k = ltb-false k d e in
+      let past : length between ≤ k + length between - d = omega arith in
+      let same : k + length between - d - length between ≡ k - d = omega arith in
+      beyond' outer (between ++ outer) d loc loc' r (k + length between) (omega arith)
+      ∙ ap (λ o. unwrap_or o wrong) (get_past between outer (k + length between - d) past)
+      ∙ ap (at outer) same
+      ∙ sym (beyond outer (between ++ outer) d loc loc' r k far))
 
   lift_keeps : (t : Tree) (d : ℕ) (loc loc' : List Value) → Inside outer (between ++ outer) d loc loc'
       → value_in w env loc' (walk (raised (length between)) as_free d t) ≡ value_in w env loc t
@@ -85,7 +85,7 @@ pub lifted_value : (w : World) (env : List Value) (between outer : List Value) (
     → value_in w env (between ++ outer) (lifted by t) ≡ value_in w env outer t
 lifted_value w env between outer by e t =
     subst (λ (n : ℕ). value_in w env (between ++ outer) (lifted n t) ≡ value_in w env outer t) e
-      (lift_keeps w env between outer t 0 outer (between ++ outer) (at_root outer (between ++ outer)))
+    (lift_keeps w env between outer t 0 outer (between ++ outer) (at_root outer (between ++ outer)))
 
 -- Substitution: a free variable has the value of its term outside the binders.
 module _ (w : World) (env' : List Value) (us : List Tree) (outer : List Value) where
@@ -105,7 +105,7 @@ module _ (w : World) (env' : List Value) (us : List Tree) (outer : List Value) w
       → value_in w env' loc' (given us d n) ≡ value_in w given_values loc (free n)
   given_keeps d loc loc' n r =
       ap (λ l. value_in w env' l (given us d n)) r.there ∙ lifted_option r.inner d r.count (numbered us n)
-        ∙ ap (λ o. unwrap_or o wrong) (sym (numbered_map n))
+      ∙ ap (λ o. unwrap_or o wrong) (sym (numbered_map n))
 
   same_bound : (d : ℕ) (loc loc' : List Value) (k : ℕ) → Inside outer outer d loc loc' → value_in w env' loc' (as_bound d k) ≡ value_in w given_values loc (bound k)
   same_bound d loc loc' k r = ap (λ l. at l k) (r.there ∙ sym r.here)
@@ -130,13 +130,13 @@ module _ (w : World) (env : List Value) (us : List Tree) (outer : List Value) wh
   beyond_filled inner d e k far (Some u) here =
       let within : k - d < length filled_values = omega (arith, slice_get_within (reverse us) (k - d) u here, length-reverse us, filled_count) in
       lifted_value w env inner outer d e u
-        ∙ sym (ap (λ o. unwrap_or o wrong) (get_left filled_values outer (k - d) within ∙ filled_at (k - d) ∙ ap (option_map (value_in w env outer)) here))
+      ∙ sym (ap (λ o. unwrap_or o wrong) (get_left filled_values outer (k - d) within ∙ filled_at (k - d) ∙ ap (option_map (value_in w env outer)) here))
   beyond_filled inner d e k far None here =
       let past : length us ≤ k - d = past_end here in
       let low : length inner ≤ k - length us = omega (arith, e) in
       let same : k - length us - length inner ≡ k - d - length filled_values = omega (arith, e, filled_count) in
       ap (λ o. unwrap_or o wrong)
-        (get_past inner outer (k - length us) low ∙ ap (slice_get outer) same ∙ sym (get_past filled_values outer (k - d) (omega (arith, filled_count))))
+      (get_past inner outer (k - length us) low ∙ ap (slice_get outer) same ∙ sym (get_past filled_values outer (k - d) (omega (arith, filled_count))))
     where
       past_end : slice_get (reverse us) (k - d) ≡ None → length us ≤ k - d
       past_end h = omega (arith, none_past (reverse us) (k - d) h, length-reverse us)
@@ -145,20 +145,19 @@ module _ (w : World) (env : List Value) (us : List Tree) (outer : List Value) wh
       → value_in w env loc' (filled us d k) ≡ value_in w env loc (bound k)
   filled_keeps d loc loc' k r =
       pick (value_in w env loc') (nat_lt k d) (bound k) (option_map_or (lifted d) (slice_get (reverse us) (k - d)) (bound (k - length us))) (at loc k)
-        (λ e. inside (filled_values ++ outer) outer d loc loc' r k (ltb-true k d e))
-        (λ e. ap (λ l. value_in w env l (option_map_or (lifted d) (slice_get (reverse us) (k - d)) (bound (k - length us)))) r.there
-          ∙ beyond_filled r.inner d r.count k (ltb-false k d e) (slice_get (reverse us) (k - d)) refl
-          ∙ sym (beyond (filled_values ++ outer) outer d loc loc' r k (ltb-false k d e)))
+      (λ e. inside (filled_values ++ outer) outer d loc loc' r k (ltb-true k d e))
+      (λ e. ap (λ l. value_in w env l (option_map_or (lifted d) (slice_get (reverse us) (k - d)) (bound (k - length us)))) r.there
+      ∙ beyond_filled r.inner d r.count k (ltb-false k d e) (slice_get (reverse us) (k - d)) refl
+      ∙ sym (beyond (filled_values ++ outer) outer d loc loc' r k (ltb-false k d e)))
 
   pub instantiated_value : (t : Tree) → value_in w env outer (instantiated us t) ≡ value_in w env (filled_values ++ outer) t
   instantiated_value t =
       keeps w env env (filled us) as_free (Inside (filled_values ++ outer) outer) (under (filled_values ++ outer) outer) filled_keeps (λ d loc loc' n r. refl)
-        t 0 (filled_values ++ outer) outer (at_root (filled_values ++ outer) outer)
+      t 0 (filled_values ++ outer) outer (at_root (filled_values ++ outer) outer)
 
 -- Abstraction: the innermost loose bound variable has the value of `?n`, and the other free variables have the values that they have.
 module _ (w : World) (env env' : List Value) (n : ℕ) (v : Value) (outer : List Value)
     (here : numbered env n ≡ Some v) (others : (m : ℕ) → m ≢ n → numbered env' m ≡ numbered env m) where
-
   bound_keeps : (d : ℕ) (loc loc' : List Value) (k : ℕ) → Inside outer (v ∷ outer) d loc loc' → value_in w env' loc' (raised 1 d k) ≡ at loc k
   bound_keeps d loc loc' k r = raised_keeps w env' (v ∷ []) outer d loc loc' k r
 
@@ -167,14 +166,14 @@ module _ (w : World) (env env' : List Value) (n : ℕ) (v : Value) (outer : List
   named_keeps d loc loc' m r =
       let same : d - d ≡ 0 = omega arith in
       pick (value_in w env' loc') (nat_eq m n) (bound d) (free m) (value_in w env loc (free m))
-        (λ e. beyond' outer (v ∷ outer) d loc loc' r d (omega arith) ∙ ap (at (v ∷ outer)) same
-          ∙ sym (ap (λ o. unwrap_or o wrong) (ap (numbered env) (eqb-true m n e) ∙ here)))
-        (λ e. ap (λ o. unwrap_or o wrong) (others m (eqb-false m n e)))
+      (λ e. beyond' outer (v ∷ outer) d loc loc' r d (omega arith) ∙ ap (at (v ∷ outer)) same
+      ∙ sym (ap (λ o. unwrap_or o wrong) (ap (numbered env) (eqb-true m n e) ∙ here)))
+      (λ e. ap (λ o. unwrap_or o wrong) (others m (eqb-false m n e)))
 
   pub abstracted_value : (t : Tree) → value_in w env' (v ∷ outer) (abstracted n t) ≡ value_in w env outer t
   abstracted_value t =
       keeps w env env' (raised 1) (bound_for n) (Inside outer (v ∷ outer)) (under outer (v ∷ outer)) bound_keeps named_keeps
-        t 0 outer (v ∷ outer) (at_root outer (v ∷ outer))
+      t 0 outer (v ∷ outer) (at_root outer (v ∷ outer))
 
 -- The same of formulas.
 module _ (th : Theory) (tb : Table) (env outer : List Value) (us : List Tree) where
@@ -184,17 +183,17 @@ module _ (th : Theory) (tb : Table) (env outer : List Value) (us : List Tree) wh
   pub substituted_truth : (f : Formula) → Holds th tb env outer (substituted_formula us f) ≡ Holds th tb (map read us) outer f
   substituted_truth f =
       keeps_truth th tb (map read us) env as_bound (given us) (Inside outer outer) (under outer outer)
-        (same_bound (world th tb) env us outer) (given_keeps (world th tb) env us outer) f 0 outer outer (at_root outer outer)
+      (same_bound (world th tb) env us outer) (given_keeps (world th tb) env us outer) f 0 outer outer (at_root outer outer)
 
   pub instantiated_truth : (f : Formula) → Holds th tb env outer (instantiated_formula us f) ≡ Holds th tb env (reverse (map read us) ++ outer) f
   instantiated_truth f =
       keeps_truth th tb env env (filled us) as_free (Inside (reverse (map read us) ++ outer) outer) (under (reverse (map read us) ++ outer) outer)
-        (filled_keeps (world th tb) env us outer) (λ d loc loc' n r. refl) f 0 (reverse (map read us) ++ outer) outer (at_root (reverse (map read us) ++ outer) outer)
+      (filled_keeps (world th tb) env us outer) (λ d loc loc' n r. refl) f 0 (reverse (map read us) ++ outer) outer (at_root (reverse (map read us) ++ outer) outer)
 
 pub abstracted_truth : (th : Theory) (tb : Table) (env env' : List Value) (n : ℕ) (v : Value) (outer : List Value) → numbered env n ≡ Some v
     → ((m : ℕ) → m ≢ n → numbered env' m ≡ numbered env m) → (f : Formula)
     → Holds th tb env' (v ∷ outer) (abstracted_formula n f) ≡ Holds th tb env outer f
 abstracted_truth th tb env env' n v outer here others f =
     keeps_truth th tb env env' (raised 1) (bound_for n) (Inside outer (v ∷ outer)) (under outer (v ∷ outer))
-      (bound_keeps (world th tb) env env' n v outer here others) (named_keeps (world th tb) env env' n v outer here others)
-      f 0 outer (v ∷ outer) (at_root outer (v ∷ outer))
+    (bound_keeps (world th tb) env env' n v outer here others) (named_keeps (world th tb) env env' n v outer here others)
+    f 0 outer (v ∷ outer) (at_root outer (v ∷ outer))

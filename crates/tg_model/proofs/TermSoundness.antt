@@ -32,7 +32,7 @@ each_composed us ts (k ∷ cs) = λ i. sym (list_composed us ts k.arguments) i �
 
 arguments_of_option : (us ts : List Ty) (o : Option Datatype)
     → option_map_or (λ (x : Datatype). map (λ (k : Constructor). map (instance (map (instance us) ts)) k.arguments) x.constructors) o []
-      ≡ map (map (instance us)) (option_map_or (λ (x : Datatype). map (λ (k : Constructor). map (instance ts) k.arguments) x.constructors) o [])
+    ≡ map (map (instance us)) (option_map_or (λ (x : Datatype). map (λ (k : Constructor). map (instance ts) k.arguments) x.constructors) o [])
 arguments_of_option us ts None = refl
 arguments_of_option us ts (Some x) = each_composed us ts x.constructors
 
@@ -57,8 +57,7 @@ module _ (th : Theory) (w : World) (us vars : List Ty) (env : List Value)
     (answers : (vs : List Value) → AreTyped th vs (map (instance us) th.program.inputs) → HasType th (w.answers vs) (instance us th.program.answer))
     (Allowed : ℕ → Trees → Type 0)
     (calls : (loc : List Value) (f : ℕ) (ts : Trees) (x : Function) (vs : List Ty) → Allowed f ts → numbered th.functions f ≡ Some x
-      → AreTyped th (values_in w env loc ts) (map (instance vs) x.arguments) → HasType th (w.calls f (values_in w env loc ts)) (instance vs x.answer)) where
-
+    → AreTyped th (values_in w env loc ts) (map (instance vs) x.arguments) → HasType th (w.calls f (values_in w env loc ts)) (instance vs x.answer)) where
   abbrev at_us : Ty → Ty
   at_us = instance us
 
@@ -79,36 +78,42 @@ module _ (th : Theory) (w : World) (us vars : List Ty) (env : List Value)
     sound (free n) (leaf t) locs loc typed each h = free_typed n t h
     sound (literal n) (leaf t) locs loc typed each h = ap at_us h
     sound (truth b) (leaf t) locs loc typed each h = ap at_us h
-    sound (con c ts) (instanced args t ds) locs loc typed each (o, is, n, r, e, all) =
-        (o, is, (map at_us args, ap at_us r ∙ ap (applied o.datatype) (instances_tys us args),
-          at_declared (values_in w env loc ts) (types_of ds) o.constructor.arguments args e (sound_all ts ds locs loc typed each all)))
+    sound (con c ts) (instanced args t ds) locs loc typed each (o, is, n, r, e, all) = (
+      o,
+      is,
+      (
+        map at_us args,
+        ap at_us r ∙ ap (applied o.datatype) (instances_tys us args),
+        at_declared (values_in w env loc ts) (types_of ds) o.constructor.arguments args e (sound_all ts ds locs loc typed each all),
+      ),
+    )
     sound (call f ts) (instanced args t ds) locs loc typed each (x, is, n, r, e, all) =
         subst (λ (u : Ty). HasType th (w.calls f (values_in w env loc ts)) u) (sym (ap at_us r ∙ composed us args x.answer))
-          (calls loc f ts x (map at_us args) each.0 is
-            (at_declared (values_in w env loc ts) (types_of ds) x.arguments args e (sound_all ts ds locs loc typed each.1 all)))
+        (calls loc f ts x (map at_us args) each.0 is
+        (at_declared (values_in w env loc ts) (types_of ds) x.arguments args e (sound_all ts ds locs loc typed each.1 all)))
     sound (put ts) (compound t ds) locs loc typed each (r, e, all) =
         subst (λ (u : Ty). HasType th (w.answers (values_in w env loc ts)) (at_us u)) (sym r)
-          (answers (values_in w env loc ts) (subst (λ (x : List Ty). AreTyped th (values_in w env loc ts) (map at_us x)) e (sound_all ts ds locs loc typed each all)))
+        (answers (values_in w env loc ts) (subst (λ (x : List Ty). AreTyped th (values_in w env loc ts) (map at_us x)) e (sound_all ts ds locs loc typed each all)))
     sound (choice ts) (compound t ds) locs loc typed each (e, all) =
         chosen_typed th (at_us t) (values_in w env loc ts)
-          (subst (λ (x : List Ty). AreTyped th (values_in w env loc ts) (map at_us x)) e (sound_all ts ds locs loc typed each all))
+        (subst (λ (x : List Ty). AreTyped th (values_in w env loc ts) (map at_us x)) e (sound_all ts ds locs loc typed each all))
     sound (op o ts) (compound t ds) locs loc typed each (e, all) =
         operated_typed th us o (types_of ds) t (values_in w env loc ts) e (sound_all ts ds locs loc typed each all)
     sound (bind t body) (binding u v d e) locs loc typed each (p, q, r, s) =
         subst (λ (x : Ty). HasType th (value_in w env (value_in w env loc t ∷ loc) body) (at_us x)) (sym s)
-          (sound body e (u ∷ locs) (value_in w env loc t ∷ loc)
-            (subst (λ (x : Ty). HasType th (value_in w env loc t) (at_us x)) (sym q) (sound t d locs loc typed each.0 p), typed) each.1 r)
+        (sound body e (u ∷ locs) (value_in w env loc t ∷ loc)
+        (subst (λ (x : Ty). HasType th (value_in w env loc t) (at_us x)) (sym q) (sound t d locs loc typed each.0 p), typed) each.1 r)
     sound (case n t bs) (branching args u d arms) locs loc typed each (is, e, p, all) =
         let v = value_in w env loc t in
         let scrutinee : HasType th v (datatype_at n (map at_us args)) =
-            subst (λ (x : Ty). HasType th v x) (ap at_us e ∙ datatype_instance us n args) (sound t d locs loc typed each.0 p) in
+        subst (λ (x : Ty). HasType th v x) (ap at_us e ∙ datatype_instance us n args) (sound t d locs loc typed each.0 p) in
         let o = opens th n (map at_us args) v (is_datatype_instance th us n args is) scrutinee in
         let taken : opened n (w.first n) v ≡ Some (o.place, o.parts) = ap (λ k. opened n k v) (first n) ∙ o.is in
         let declared = mapped_back (map at_us) (slice_get (constructor_arguments th n args) o.place) o.arguments
-            (sym (slice_get-map (map at_us) (constructor_arguments th n args) o.place) ∙ (ap (λ l. slice_get l o.place) (sym (arguments_composed th us n args)) ∙ o.found)) in
+        (sym (slice_get-map (map at_us) (constructor_arguments th n args) o.place) ∙ (ap (λ l. slice_get l o.place) (sym (arguments_composed th us n args)) ∙ o.found)) in
         subst (λ (p : Option (ℕ × List Value)). HasType th (option_map_or (λ (q : ℕ × List Value). branch_in w env loc q.0 q.1 bs) p wrong) (at_us u)) (sym taken)
-          (sound_arms bs (constructor_arguments th n args) arms o.place declared.0 o.parts locs loc u typed each.1 declared.1
-            (subst (λ (x : List Ty). AreTyped th o.parts x) (sym declared.2) o.typed) all)
+        (sound_arms bs (constructor_arguments th n args) arms o.place declared.0 o.parts locs loc u typed each.1 declared.1
+        (subst (λ (x : List Ty). AreTyped th o.parts x) (sym declared.2) o.typed) all)
     sound t d locs loc typed each h = absurd h
 
     pub sound_all : (ts : Trees) (ds : Typings) (locs : List Ty) (loc : List Value) → AreTyped th loc (map at_us locs) → EachCalls Allowed ts
@@ -126,12 +131,12 @@ module _ (th : Theory) (w : World) (us vars : List Ty) (env : List Value)
         let same : ts ≡ args = cc found in
         let count : n ≡ length vs = n_is ∙ (ap length same ∙ (sym (length-map args at_us) ∙ sym (typed_length th vs (map at_us args) parts))) in
         let here : AreTyped th (reverse vs ++ loc) (map at_us (reverse ts ++ locs)) =
-            subst (λ (x : List Ty). AreTyped th (reverse vs ++ loc) x)
-              (sym (map-append at_us (reverse ts) locs ∙ ap (λ x. x ++ map at_us locs) (map-reverse at_us ts ∙ ap (λ x. reverse (map at_us x)) same)))
-              (typed_append th (reverse vs) loc (reverse (map at_us args)) (map at_us locs) (typed_reverse th vs (map at_us args) parts) typed) in
+        subst (λ (x : List Ty). AreTyped th (reverse vs ++ loc) x)
+        (sym (map-append at_us (reverse ts) locs ∙ ap (λ x. x ++ map at_us locs) (map-reverse at_us ts ∙ ap (λ x. reverse (map at_us x)) same)))
+        (typed_append th (reverse vs) loc (reverse (map at_us args)) (map at_us locs) (typed_reverse th vs (map at_us args) parts) typed) in
         subst (λ (x : Value). HasType th x (at_us u)) (sym (if_true (value_in w env (reverse vs ++ loc) body) wrong (nat_eq n (length vs)) (eq-eqb n (length vs) count)))
-          (subst (λ (x : Ty). HasType th (value_in w env (reverse vs ++ loc) body) (at_us x)) r
-            (sound body d (reverse ts ++ locs) (reverse vs ++ loc) here each.0 p))
+        (subst (λ (x : Ty). HasType th (value_in w env (reverse vs ++ loc) body) (at_us x)) r
+        (sound body d (reverse ts ++ locs) (reverse vs ++ loc) here each.0 p))
     sound_arms (tree.arm n body bs) (ts ∷ rest) (arm ts' d arms) (suc k) args vs locs loc u typed each found parts h =
         sound_arms bs rest arms k args vs locs loc u typed each.1 found parts h.4
     sound_arms bs all arms k args vs locs loc u typed each found parts h = absurd h

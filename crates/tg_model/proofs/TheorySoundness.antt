@@ -64,15 +64,17 @@ smaller (suc d) first (made c vs) k parts e i u h =
 pub case_at : (th : Theory) (self : ℕ) (x : Function) (place : ℕ) (cases : List Tree) (all : List (List Ty)) (k : ℕ) (args : List Ty)
     → AreCases th self x place cases all → slice_get all k ≡ Some args
     → (t : Tree) × (slice_get cases k ≡ Some t) × EachCall (IsLower self place (length (others x.arguments place)) (length args)) t
-      × IsTyped th (others x.arguments place ++ args) [] t x.answer
+    × IsTyped th (others x.arguments place ++ args) [] t x.answer
 case_at th self x place [] [] k args h e = cc
 case_at th self x place [] (ts ∷ rest) k args h e = absurd h
 case_at th self x place (t ∷ cases) [] k args h e = absurd h
 case_at th self x place (t ∷ cases) (ts ∷ rest) zero args h e =
-    let p : ts ≡ args = cc e in
-    (t, refl,
+    let p : ts ≡ args = cc e in (
+      t,
+      refl,
       subst (λ (xs : List Ty). EachCall (IsLower self place (length (others x.arguments place)) (length xs)) t) p h.0,
-      subst (λ (xs : List Ty). IsTyped th (others x.arguments place ++ xs) [] t x.answer) p h.1)
+      subst (λ (xs : List Ty). IsTyped th (others x.arguments place ++ xs) [] t x.answer) p h.1,
+    )
 case_at th self x place (t ∷ cases) (ts ∷ rest) (suc k) args h e = case_at th self x place cases rest k args h.2 e
 
 typed_take : (th : Theory) (f : Ty → Ty) (n : ℕ) (vs : List Value) (ts : List Ty) → AreTyped th vs (map f ts) → AreTyped th (take n vs) (map f (take n ts))
@@ -92,7 +94,7 @@ typed_drop th f (suc n) (v ∷ vs) (t ∷ ts) h = typed_drop th f n vs ts h.1
 pub typed_others : (th : Theory) (f : Ty → Ty) (n : ℕ) (vs : List Value) (ts : List Ty) → AreTyped th vs (map f ts) → AreTyped th (others vs n) (map f (others ts n))
 typed_others th f n vs ts h =
     subst (λ (x : List Ty). AreTyped th (others vs n) x) (sym (map-append f (take (n - 1) ts) (drop n ts)))
-      (typed_append th (take (n - 1) vs) (drop n vs) (map f (take (n - 1) ts)) (map f (drop n ts)) (typed_take th f (n - 1) vs ts h) (typed_drop th f n vs ts h))
+    (typed_append th (take (n - 1) vs) (drop n vs) (map f (take (n - 1) ts)) (map f (drop n ts)) (typed_take th f (n - 1) vs ts h) (typed_drop th f n vs ts h))
 
 pub typed_place : (th : Theory) (f : Ty → Ty) (n : ℕ) (vs : List Value) (ts : List Ty) (t : Ty) → AreTyped th vs (map f ts) → numbered ts n ≡ Some t → HasType th (place_of vs n) (f t)
 typed_place th f zero vs ts t h e = cc

@@ -29,7 +29,7 @@ under : (outer outer' : List Ty) (d : ℕ) (locs locs' ts : List Ty) → Inside 
     → Inside outer outer' (d + length ts) (reverse ts ++ locs) (reverse ts ++ locs')
 under outer outer' d locs locs' ts r =
     let n : length (reverse ts ++ r.inner) ≡ d + length ts =
-        length-append (reverse ts) r.inner ∙ (let m = length-reverse ts in let c = r.count in let e : length (reverse ts) + length r.inner ≡ d + length ts = omega arith in e) in
+    length-append (reverse ts) r.inner ∙ (let m = length-reverse ts in let c = r.count in let e : length (reverse ts) + length r.inner ≡ d + length ts = omega arith in e) in
     record {
       inner = reverse ts ++ r.inner;
       count = n;
@@ -65,21 +65,21 @@ module _ (th : Theory) (vars : List Ty) where
         → IsTyped th vars locs' (raised (length between) d k) t
     raised_typed d locs locs' k t r h =
         pick (λ x. IsTyped th vars locs' x t) (nat_lt k d) (bound k) (bound (k + length between))
-          (λ e. variable locs' k t (inside outer (between ++ outer) d locs locs' r k (ltb-true k d e) ∙ h))
-          (λ e. let far : d ≤ k = ltb-false k d e in
-            let past : length between ≤ k + length between - d = omega arith in
-            let same : k + length between - d - length between ≡ k - d = omega arith in
-            variable locs' (k + length between) t
-              (beyond' outer (between ++ outer) d locs locs' r (k + length between) (omega arith)
-                ∙ get_past between outer (k + length between - d) past
-                ∙ ap (slice_get outer) same
-                ∙ sym (beyond outer (between ++ outer) d locs locs' r k far) ∙ h))
+        (λ e. variable locs' k t (inside outer (between ++ outer) d locs locs' r k (ltb-true k d e) ∙ h))
+        (λ e. let far : d ≤ k = ltb-false k d e in
+        let past : length between ≤ k + length between - d = omega arith in
+        let same : k + length between - d - length between ≡ k - d = omega arith in
+        variable locs' (k + length between) t
+        (beyond' outer (between ++ outer) d locs locs' r (k + length between) (omega arith)
+        ∙ get_past between outer (k + length between - d) past
+        ∙ ap (slice_get outer) same
+        ∙ sym (beyond outer (between ++ outer) d locs locs' r k far) ∙ h))
 
     pub lifted_typed : (by : ℕ) → length between ≡ by → (t : Tree) (u : Ty) → IsTyped th vars outer t u → IsTyped th vars (between ++ outer) (lifted by t) u
     lifted_typed by e t u h =
         subst (λ (n : ℕ). IsTyped th vars (between ++ outer) (lifted n t) u) e
-          (keeps_typed th vars vars (raised (length between)) as_free (Inside outer (between ++ outer)) (under outer (between ++ outer)) raised_typed
-            (λ d locs locs' n t r is. (leaf t, is, refl)) t u 0 outer (between ++ outer) (at_root outer (between ++ outer)) h)
+        (keeps_typed th vars vars (raised (length between)) as_free (Inside outer (between ++ outer)) (under outer (between ++ outer)) raised_typed
+        (λ d locs locs' n t r is. (leaf t, is, refl)) t u 0 outer (between ++ outer) (at_root outer (between ++ outer)) h)
 
 -- substitution: the terms have the types of the variables that they stand for
 module _ (th : Theory) (vars : List Ty) (us : List Tree) (ts outer : List Ty) (typed : AreListTyped th vars outer us ts) where
@@ -145,25 +145,25 @@ module _ (th : Theory) (vars : List Ty) (us : List Tree) (ts outer : List Ty) (t
       let after_terms : length us ≤ k - d = omega (arith, none_past (reverse us) (k - d) e, length-reverse us) in
       let same : k - d - length (reverse ts) ≡ k - length us - d = omega (arith, length-reverse ts, count) in
       variable th vars locs' (k - length us) t
-        (beyond' (reverse ts ++ outer) outer d locs locs' r (k - length us) (omega arith) ∙ ap (slice_get outer) (sym same)
-          ∙ sym (get_past (reverse ts) outer (k - d) (omega (arith, length-reverse ts, count))) ∙ h)
+      (beyond' (reverse ts ++ outer) outer d locs locs' r (k - length us) (omega arith) ∙ ap (slice_get outer) (sym same)
+      ∙ sym (get_past (reverse ts) outer (k - d) (omega (arith, length-reverse ts, count))) ∙ h)
 
   filled_typed : (d : ℕ) (locs locs' : List Ty) (k : ℕ) (t : Ty) → Inside (reverse ts ++ outer) outer d locs locs' → slice_get locs k ≡ Some t → IsTyped th vars locs' (filled us d k) t
   filled_typed d locs locs' k t r h =
       pick (λ x. IsTyped th vars locs' x t) (nat_lt k d) (bound k) (option_map_or (lifted d) (slice_get (reverse us) (k - d)) (bound (k - length us)))
-        (λ e. variable th vars locs' k t (inside (reverse ts ++ outer) outer d locs locs' r k (ltb-true k d e) ∙ h))
-        (λ e. beyond_filled d locs locs' k t r (ltb-false k d e) (sym (beyond (reverse ts ++ outer) outer d locs locs' r k (ltb-false k d e)) ∙ h)
-          (slice_get (reverse us) (k - d)) refl)
+      (λ e. variable th vars locs' k t (inside (reverse ts ++ outer) outer d locs locs' r k (ltb-true k d e) ∙ h))
+      (λ e. beyond_filled d locs locs' k t r (ltb-false k d e) (sym (beyond (reverse ts ++ outer) outer d locs locs' r k (ltb-false k d e)) ∙ h)
+      (slice_get (reverse us) (k - d)) refl)
 
   pub instantiated_typed : (t : Tree) (u : Ty) → IsTyped th vars (reverse ts ++ outer) t u → IsTyped th vars outer (instantiated us t) u
   instantiated_typed t u h =
       keeps_typed th vars vars (filled us) as_free (Inside (reverse ts ++ outer) outer) (under (reverse ts ++ outer) outer) filled_typed
-        (λ d locs locs' n t r is. (leaf t, is, refl)) t u 0 (reverse ts ++ outer) outer (at_root (reverse ts ++ outer) outer) h
+      (λ d locs locs' n t r is. (leaf t, is, refl)) t u 0 (reverse ts ++ outer) outer (at_root (reverse ts ++ outer) outer) h
 
   pub instantiated_well_formed : (f : Formula) → IsWellFormed th vars (reverse ts ++ outer) f → IsWellFormed th vars outer (instantiated_formula us f)
   instantiated_well_formed f h =
       keeps_well_formed th vars vars (filled us) as_free (Inside (reverse ts ++ outer) outer) (under (reverse ts ++ outer) outer) filled_typed
-        (λ d locs locs' n t r is. (leaf t, is, refl)) f 0 (reverse ts ++ outer) outer (at_root (reverse ts ++ outer) outer) h
+      (λ d locs locs' n t r is. (leaf t, is, refl)) f 0 (reverse ts ++ outer) outer (at_root (reverse ts ++ outer) outer) h
 
 -- abstraction: the innermost loose bound variable has the type of `?n`, and the other free variables have the types that they have
 module _ (th : Theory) (vars vars' : List Ty) (n : ℕ) (s : Ty) (outer : List Ty)
@@ -172,16 +172,16 @@ module _ (th : Theory) (vars vars' : List Ty) (n : ℕ) (s : Ty) (outer : List T
   named_typed d locs locs' m t r h =
       let same : d - d ≡ 0 = omega arith in
       pick (λ x. IsTyped th vars' locs' x t) (nat_eq m n) (bound d) (free m)
-        (λ e. variable th vars' locs' d t
-          (beyond' outer (s ∷ outer) d locs locs' r d (omega arith) ∙ ap (slice_get (s ∷ outer)) same ∙ (sym here ∙ (ap (numbered vars) (sym (eqb-true m n e)) ∙ h))))
-        (λ e. (leaf t, others m (eqb-false m n e) ∙ h, refl))
+      (λ e. variable th vars' locs' d t
+      (beyond' outer (s ∷ outer) d locs locs' r d (omega arith) ∙ ap (slice_get (s ∷ outer)) same ∙ (sym here ∙ (ap (numbered vars) (sym (eqb-true m n e)) ∙ h))))
+      (λ e. (leaf t, others m (eqb-false m n e) ∙ h, refl))
 
   pub abstracted_typed : (t : Tree) (u : Ty) → IsTyped th vars outer t u → IsTyped th vars' (s ∷ outer) (abstracted n t) u
   abstracted_typed t u h =
       keeps_typed th vars vars' (raised 1) (bound_for n) (Inside outer (s ∷ outer)) (under outer (s ∷ outer)) (raised_typed th vars' (s ∷ []) outer) named_typed
-        t u 0 outer (s ∷ outer) (at_root outer (s ∷ outer)) h
+      t u 0 outer (s ∷ outer) (at_root outer (s ∷ outer)) h
 
   pub abstracted_well_formed : (f : Formula) → IsWellFormed th vars outer f → IsWellFormed th vars' (s ∷ outer) (abstracted_formula n f)
   abstracted_well_formed f h =
       keeps_well_formed th vars vars' (raised 1) (bound_for n) (Inside outer (s ∷ outer)) (under outer (s ∷ outer)) (raised_typed th vars' (s ∷ []) outer) named_typed
-        f 0 outer (s ∷ outer) (at_root outer (s ∷ outer)) h
+      f 0 outer (s ∷ outer) (at_root outer (s ∷ outer)) h

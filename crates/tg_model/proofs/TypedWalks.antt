@@ -20,7 +20,6 @@ module _ (th : Theory) (vars vars' : List Ty) (on_bound on_free : ℕ → ℕ �
     (under : (d : ℕ) (locs locs' ts : List Ty) → Reads d locs locs' → Reads (d + length ts) (reverse ts ++ locs) (reverse ts ++ locs'))
     (bounds : (d : ℕ) (locs locs' : List Ty) (k : ℕ) (t : Ty) → Reads d locs locs' → slice_get locs k ≡ Some t → IsTyped th vars' locs' (on_bound d k) t)
     (frees : (d : ℕ) (locs locs' : List Ty) (n : ℕ) (t : Ty) → Reads d locs locs' → numbered vars n ≡ Some t → IsTyped th vars' locs' (on_free d n) t) where
-
   abbrev AllTypings : List Ty → Trees → List Ty → Type 0
   AllTypings locs ts us = (ds : Typings) × AreTypings th vars' locs ts ds × (types_of ds ≡ us)
 
@@ -70,7 +69,7 @@ module _ (th : Theory) (vars vars' : List Ty) (on_bound on_free : ℕ → ℕ �
     keep_arm_types tree.end [] end u n locs locs' r h = (end, tt)
     keep_arm_types (tree.arm m body bs) (ts ∷ rest) (arm ts' d arms) u n locs locs' r (count, e, p, q, others) =
         let reads : Reads (n + m) (reverse ts ++ locs) (reverse ts ++ locs') =
-            subst (λ (k : ℕ). Reads (n + k) (reverse ts ++ locs) (reverse ts ++ locs')) (sym count) (under n locs locs' ts r) in
+        subst (λ (k : ℕ). Reads (n + k) (reverse ts ++ locs) (reverse ts ++ locs')) (sym count) (under n locs locs' ts r) in
         let inner = keeps_types body d (n + m) (reverse ts ++ locs) (reverse ts ++ locs') reads p in
         let later = keep_arm_types bs rest arms u n locs locs' r others in
         (arm ts' inner.0 later.0, (count, e, inner.1, inner.2 ∙ q, later.1))

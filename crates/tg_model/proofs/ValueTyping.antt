@@ -97,7 +97,7 @@ module _ (th : Theory) where
       let p = is_number v h.0 in
       let q = is_number w h.1.0 in
       subst (λ (x : Value). HasType th (on_numbers g (x ∷ w ∷ [])) t) (sym p.1)
-        (subst (λ (y : Value). HasType th (on_numbers g (number p.0 ∷ y ∷ [])) t) (sym q.1) (k p.0 q.0))
+      (subst (λ (y : Value). HasType th (on_numbers g (number p.0 ∷ y ∷ [])) t) (sym q.1) (k p.0 q.0))
 
   one_truth : (g : Bool → Bool) (vs : List Value) → AreTyped th vs (bool ∷ []) → HasType th (on_truth g vs) bool
   one_truth g [] h = absurd h
@@ -112,7 +112,7 @@ module _ (th : Theory) where
       let p = is_boolean v h.0 in
       let q = is_boolean w h.1.0 in
       subst (λ (x : Value). HasType th (on_truths g (x ∷ w ∷ [])) bool) (sym p.1)
-        (subst (λ (y : Value). HasType th (on_truths g (boolean p.0 ∷ y ∷ [])) bool) (sym q.1) refl)
+      (subst (λ (y : Value). HasType th (on_truths g (boolean p.0 ∷ y ∷ [])) bool) (sym q.1) refl)
 
   equated : (vs : List Value) (u : Ty) → AreTyped th vs (u ∷ u ∷ []) → HasType th (operated equality vs) bool
   equated [] u h = absurd h
@@ -191,7 +191,7 @@ module _ (th : Theory) where
         arguments = arguments;
         is = if_then (nat_le first c) (c - first, listed vs) (le-leb first c after);
         found = ap (λ (p : Option Datatype). slice_get (option_map_or (λ (y : Datatype). map (λ (k : Constructor). map (instance us) k.arguments) y.constructors) p []) (c - first)) is
-          ∙ (slice_get-map (λ (k : Constructor). map (instance us) k.arguments) x.constructors (c - first)
+            ∙ (slice_get-map (λ (k : Constructor). map (instance us) k.arguments) x.constructors (c - first)
             ∙ ap (option_map (λ (k : Constructor). map (instance us) k.arguments)) placed);
         typed = subst (λ (ws : Values). HaveTypes th ws arguments) (sym (values-listed vs)) typed;
       }
@@ -207,6 +207,6 @@ module _ (th : Theory) where
       let place : q.place ≡ d = omega (arith, q.number, same) in
       let arguments : h.2.0 ≡ us = sym (same_arguments (suc d) o.datatype us h.2.0 h.2.1) in
       opens_at d us q.datatype c vs o (subst (λ (k : ℕ). slice_get th.datatypes k ≡ Some q.datatype) place q.is)
-        (subst (λ (k : ℕ). first_constructor th.datatypes (suc k) ≤ c) place q.after)
-        (subst (λ (k : ℕ). slice_get q.datatype.constructors (c - first_constructor th.datatypes (suc k)) ≡ Some o.constructor) place q.constructor)
-        (subst (λ (ws : List Ty). HaveTypes th vs (map (instance ws) o.constructor.arguments)) arguments h.2.2)
+      (subst (λ (k : ℕ). first_constructor th.datatypes (suc k) ≤ c) place q.after)
+      (subst (λ (k : ℕ). slice_get q.datatype.constructors (c - first_constructor th.datatypes (suc k)) ≡ Some o.constructor) place q.constructor)
+      (subst (λ (ws : List Ty). HaveTypes th vs (map (instance ws) o.constructor.arguments)) arguments h.2.2)

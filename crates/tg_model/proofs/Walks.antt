@@ -31,7 +31,6 @@ module _ (w : World) (env env' : List Value) (on_bound on_free : ℕ → ℕ →
     (under : (d : ℕ) (loc loc' vs : List Value) → Reads d loc loc' → Reads (d + length vs) (reverse vs ++ loc) (reverse vs ++ loc'))
     (bounds : (d : ℕ) (loc loc' : List Value) (k : ℕ) → Reads d loc loc' → value_in w env' loc' (on_bound d k) ≡ value_in w env loc (bound k))
     (frees : (d : ℕ) (loc loc' : List Value) (n : ℕ) → Reads d loc loc' → value_in w env' loc' (on_free d n) ≡ value_in w env loc (free n)) where
-
   abbrev after_case : Arms → List Value → List Value → Option (ℕ × List Value) → Value
   after_case arms en loc o = option_map_or (λ (p : ℕ × List Value). branch_in w en loc p.0 p.1 arms) o wrong
 
@@ -47,10 +46,10 @@ module _ (w : World) (env env' : List Value) (on_bound on_free : ℕ → ℕ →
     keeps (choice ts) d loc loc' r = ap chosen (keeps_all ts d loc loc' r)
     keeps (case e t arms) d loc loc' r =
         ap (λ v. after_case (walk_arms on_bound on_free d arms) env' loc' (opened e (w.first e) v)) (keeps t d loc loc' r)
-          ∙ by_branch _ _ (λ k vs. keeps_arms arms d loc loc' r k vs) (opened e (w.first e) (value_in w env loc t))
+        ∙ by_branch _ _ (λ k vs. keeps_arms arms d loc loc' r k vs) (opened e (w.first e) (value_in w env loc t))
     keeps (bind t body) d loc loc' r =
         ap (λ v. value_in w env' (v ∷ loc') (walk on_bound on_free (d + 1) body)) (keeps t d loc loc' r)
-          ∙ keeps body (d + 1) (value_in w env loc t ∷ loc) (value_in w env loc t ∷ loc') (under d loc loc' (value_in w env loc t ∷ []) r)
+        ∙ keeps body (d + 1) (value_in w env loc t ∷ loc) (value_in w env loc t ∷ loc') (under d loc loc' (value_in w env loc t ∷ []) r)
     keeps (op o ts) d loc loc' r = ap (operated o) (keeps_all ts d loc loc' r)
 
     pub keeps_all : (ts : Trees) (d : ℕ) (loc loc' : List Value) → Reads d loc loc' → values_in w env' loc' (walk_all on_bound on_free d ts) ≡ values_in w env loc ts
@@ -62,8 +61,8 @@ module _ (w : World) (env env' : List Value) (on_bound on_free : ℕ → ℕ →
     keeps_arms end d loc loc' r k vs = refl
     keeps_arms (arm n body arms) d loc loc' r zero vs =
         if_same _ _ wrong (nat_eq n (length vs)) (λ e.
-          keeps body (d + n) (reverse vs ++ loc) (reverse vs ++ loc')
-            (subst (λ (m : ℕ). Reads (d + m) (reverse vs ++ loc) (reverse vs ++ loc')) (sym (eqb-true n (length vs) e)) (under d loc loc' vs r)))
+        keeps body (d + n) (reverse vs ++ loc) (reverse vs ++ loc')
+        (subst (λ (m : ℕ). Reads (d + m) (reverse vs ++ loc) (reverse vs ++ loc')) (sym (eqb-true n (length vs) e)) (under d loc loc' vs r)))
     keeps_arms (arm n body arms) d loc loc' r (suc k) vs = keeps_arms arms d loc loc' r k vs
 
 -- The same of formulas: truth before and after is one fact. Here both are read in the world of a theory and a table.
@@ -71,7 +70,6 @@ module _ (th : Theory) (tb : Table) (env env' : List Value) (on_bound on_free : 
     (under : (d : ℕ) (loc loc' vs : List Value) → Reads d loc loc' → Reads (d + length vs) (reverse vs ++ loc) (reverse vs ++ loc'))
     (bounds : (d : ℕ) (loc loc' : List Value) (k : ℕ) → Reads d loc loc' → value_in (world th tb) env' loc' (on_bound d k) ≡ value_in (world th tb) env loc (bound k))
     (frees : (d : ℕ) (loc loc' : List Value) (n : ℕ) → Reads d loc loc' → value_in (world th tb) env' loc' (on_free d n) ≡ value_in (world th tb) env loc (free n)) where
-
   one : (t : Tree) (d : ℕ) (loc loc' : List Value) → Reads d loc loc' → value_in (world th tb) env' loc' (walk on_bound on_free d t) ≡ value_in (world th tb) env loc t
   one = keeps (world th tb) env env' on_bound on_free Reads under bounds frees
 

@@ -84,10 +84,10 @@ module _ (th : Theory) (vars : List Ty) where
     IsTyping locs (truth b) (leaf t) = t ≡ bool
     IsTyping locs (con c ts) (instanced us t ds) =
         (o : Owned) × (constructor_at th c ≡ Some o) × IsDatatype th o.datatype us × (t ≡ applied o.datatype (tys us))
-          × (types_of ds ≡ map (instance us) o.constructor.arguments) × AreTypings locs ts ds
+        × (types_of ds ≡ map (instance us) o.constructor.arguments) × AreTypings locs ts ds
     IsTyping locs (call f ts) (instanced us t ds) =
         (x : Function) × (numbered th.functions f ≡ Some x) × (length us ≡ x.parameters) × (t ≡ instance us x.answer)
-          × (types_of ds ≡ map (instance us) x.arguments) × AreTypings locs ts ds
+        × (types_of ds ≡ map (instance us) x.arguments) × AreTypings locs ts ds
     IsTyping locs (put ts) (compound t ds) = (t ≡ th.program.answer) × (types_of ds ≡ th.program.inputs) × AreTypings locs ts ds
     IsTyping locs (choice ts) (compound t ds) = (types_of ds ≡ bool ∷ t ∷ t ∷ []) × AreTypings locs ts ds
     IsTyping locs (op o ts) (compound t ds) = IsOperation o (types_of ds) t × AreTypings locs ts ds

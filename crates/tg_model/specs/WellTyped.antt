@@ -41,14 +41,14 @@ module _ (th : Theory) (self : ℕ) (x : Function) (place : ℕ) where
   AreCases [] [] = Unit {0}
   AreCases (t ∷ ts) (args ∷ rest) =
       EachCall (IsLower self place (length (others x.arguments place)) (length args)) t
-        × IsTyped th (others x.arguments place ++ args) [] t x.answer × AreCases ts rest
+      × IsTyped th (others x.arguments place ++ args) [] t x.answer × AreCases ts rest
   AreCases _ _ = ⊥
 
 abbrev pub IsBody : Theory → ℕ → Function → Body → Type 0
 IsBody th self x (plain t) = EachCall (λ f ts. f < self) t × IsTyped th x.arguments [] t x.answer
 IsBody th self x (recursive place cases) =
     (d : ℕ) × (us : List Ty) × (numbered x.arguments place ≡ Some (datatype_at d us)) × IsDatatype th d us
-      × AreCases th self x place cases (constructor_arguments th d us)
+    × AreCases th self x place cases (constructor_arguments th d us)
 
 pub record IsWellTyped (th : Theory) : Type 0 where
   pub datatypes : (d : ℕ) (x : Datatype) → slice_get th.datatypes d ≡ Some x → IsInhabited th (suc d) x

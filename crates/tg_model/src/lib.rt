@@ -16,20 +16,17 @@ ghost use Rattle.tg_model.specs.Laws.{DependsOnUsed, TruthDependsOnUsed};
 pub fn unfolding()
     ensures recursion { UnfoldsRecursion }
     ensures calls { UnfoldsCalls }
-{
-}
+{}
 
 /// `=` on values is equality.
 pub fn equality()
     ensures { DecidesEquality }
-{
-}
+{}
 
 /// Type soundness: in a well-typed theory a typed term has a value of its type.
 pub fn type_soundness()
     ensures { IsTypeSound }
-{
-}
+{}
 
 /// Substitution keeps values, on every table and for all values of the loose bound variables.
 pub fn substitution()
@@ -37,16 +34,14 @@ pub fn substitution()
     ensures substitution { SubstitutionKeeps }
     ensures instantiation { InstantiationKeeps }
     ensures abstraction { AbstractionKeeps }
-{
-}
+{}
 
 /// Substitution in formulas keeps truth, on every table and for all values of the loose bound variables.
 pub fn substitution_in_formulas()
     ensures substitution { SubstitutionKeepsTruth }
     ensures instantiation { InstantiationKeepsTruth }
     ensures abstraction { AbstractionKeepsTruth }
-{
-}
+{}
 
 /// Substitution keeps types.
 pub fn substitution_and_types()
@@ -54,20 +49,17 @@ pub fn substitution_and_types()
     ensures substitution { SubstitutionKeepsTypes }
     ensures instantiation { InstantiationKeepsTypes }
     ensures abstraction { AbstractionKeepsTypes }
-{
-}
+{}
 
 /// Substitution in formulas keeps well-formedness.
 pub fn substitution_and_form()
     ensures substitution { SubstitutionKeepsForm }
     ensures instantiation { InstantiationKeepsForm }
     ensures abstraction { AbstractionKeepsForm }
-{
-}
+{}
 
 /// Values and truth depend on the variables that stand in a term or a formula, and on no other.
 pub fn used_variables()
     ensures values { DependsOnUsed }
     ensures truth { TruthDependsOnUsed }
-{
-}
+{}
