@@ -1,17 +1,11 @@
 -- Reports that are known by hand, said of the definitions.
-use Rattle.std.proofs.Common.{◌≡◌, true, false, List, [], ◌∷◌, ◌++◌, refl, ◌∙◌, ap}
+use Rattle.std.proofs.Common.{◌≡◌, refl}
 use Rattle.std.specs.Prelude.{codes}
 use Rattle.std.specs.Fmt.{digits}
-use Rattle.tg_model.specs.Tree as tree
-use Rattle.tg_model.specs.Tree.{Tree, bound, free, literal, truth, con, call, choice, case, bind, op, arm, end, one, two, trees, successor, negation, conjunction, plus, modulo}
-use Rattle.tg_model.specs.Types.{nat, bool, parameter, applied, tys}
-use Rattle.tg_model.specs.Formula.{atom, implies, all, some, thyp, tested, deep}
-use Rattle.tg_model.specs.Theory.{Theory, recursive}
 use Rattle.tg_cmd.specs.declared.form.Relation.TheVariants.{Less, LessEqual}
 use Rattle.tg_cmd.specs.Form.{Form, spelling, parts}
 use Rattle.tg_cmd.specs.Pieces.{pieces}
 use Rattle.tg_cmd.specs.Report.{report, head_text, class_text, test_text, open_text, conclusion_text, counts_text}
-use Rattle.tg_cmd.specs.Text.{term_text, type_text, formula_text}
 
 -- theory Inc version 1 begin program put :: nat => nat; spec x . x < 3 --> x < put x; end
 abbrev inc : Form

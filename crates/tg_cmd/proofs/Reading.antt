@@ -1,5 +1,5 @@
 -- The readers give the parts exactly where the pieces are their spelling.
-use Rattle.std.proofs.Common.{ℕ, ◌≡◌, ◌<◌, ◌^◌, arith, Bool, true, false, List, [], ◌∷◌, Option, Some, None, MatchOption, refl, sym, ◌∙◌, ap, if◌then◌else◌, rules}
+use Rattle.std.proofs.Common.{ℕ, ◌≡◌, ◌<◌, ◌^◌, arith, Bool, true, false, List, [], ◌∷◌, Option, Some, None, MatchOption, refl, sym, ◌∙◌, ap, if◌then◌else◌}
 use Rattle.std.specs.Prelude.{codes, decimal}
 use Rattle.std.specs.Str.Parse.{digits_value}
 use Rattle.std.proofs.lemmas.Fmt.{decimal_is_IsNumeral}

@@ -1,16 +1,16 @@
 -- The test theorem of a form is true on every table, and its hypotheses are necessary.
-use Rattle.std.proofs.Common.{ℕ, ◌≡◌, ◌≤◌, Bool, true, false, not, ◌||◌, List, [], ◌∷◌, refl, sym, ◌∙◌, ap, arith, nat_lt, nat_le, if◌then◌else◌}
+use Rattle.std.proofs.Common.{ℕ, ◌≡◌, Bool, true, false, not, ◌||◌, [], ◌∷◌, refl, sym, ◌∙◌, ap, arith, nat_lt, nat_le, if◌then◌else◌}
 use Rattle.std.proofs.lemmas.Bool.{le-leb}
 use Rattle.tg_model.specs.Value.{Value, number, boolean, made}
 use Rattle.tg_model.specs.Formula.{Formula}
-use Rattle.tg_model.specs.Tree.{bound, literal}
+use Rattle.tg_model.specs.Tree.{bound}
 use Rattle.tg_model.specs.Table.{Table}
 use Rattle.tg_model.specs.Denotation.{operated, on_truths, den}
 use Rattle.tg_model.specs.Truth.{Holds, AllHold, IsTrueOn, SatisfiesSpecification}
 use Rattle.tg_cmd.specs.declared.form.Relation.{Relation}
 use Rattle.tg_cmd.specs.declared.form.Relation.TheVariants.{Less, LessEqual}
 use Rattle.tg_cmd.specs.Form.{Form}
-use Rattle.tg_cmd.specs.Theorem.{operator_of, constraint_at, check_at, specification_at, theory_of, test_of, uniformity_of, open_class_of, conclusion_of, zero_meets, has_datum, theorem_of}
+use Rattle.tg_cmd.specs.Theorem.{operator_of, constraint_at, check_at, theory_of, test_of, uniformity_of, open_class_of, conclusion_of, zero_meets, has_datum, theorem_of}
 use Rattle.tg_cmd.specs.Truths.{IsTrueTheorem}
 
 -- a comparison has a truth value, whatever it compares

@@ -1,5 +1,5 @@
 -- The form of theory that is read: one program from nat to nat, and a specification of two comparisons.
-use Rattle.std.specs.Prelude.{ℕ, ◌≡◌, ◌^◌, ◌<◌, ◌≢◌, Bool, true, ◌&&◌, List, [], ◌∷◌, ◌++◌, codes, decimal, Option, Some, None}
+use Rattle.std.specs.Prelude.{ℕ, ◌≡◌, ◌^◌, ◌<◌, ◌≢◌, Bool, true, ◌&&◌, List, [], ◌∷◌, ◌++◌, codes, decimal, Option, Some}
 use Rattle.tg_cmd.specs.declared.form.Relation.{Relation}
 use Rattle.tg_cmd.specs.declared.form.Relation.TheVariants.{Less, LessEqual}
 use Rattle.tg_cmd.specs.Pieces.{pieces, after, first_piece, at_end, ◌>>=◌}

@@ -1,5 +1,4 @@
 -- What contracts see of the parts and the form that the code reads.
-use Rattle.std.specs.Prelude.{ℕ, List}
 use Rattle.tg_cmd.specs.declared.form.Premise.{Premise}
 use Rattle.tg_cmd.specs.declared.form.Conclusion.{Conclusion}
 use Rattle.tg_cmd.specs.declared.form.Parts.{Parts}

@@ -1,5 +1,5 @@
 -- The theory that a form states, its one class, and the test theorem with its hypotheses.
-use Rattle.std.specs.Prelude.{ℕ, Bool, true, nat_lt, List, [], ◌∷◌, if◌then◌else◌}
+use Rattle.std.specs.Prelude.{ℕ, Bool, true, nat_lt, [], ◌∷◌, if◌then◌else◌}
 use Rattle.tg_model.specs.Tree.{Tree, bound, free, literal, put, op, one, two, Operator, less, less_equal, implication}
 use Rattle.tg_model.specs.Types.{nat}
 use Rattle.tg_model.specs.Formula.{Formula, atom, both, implies, all, some, thyp, tested, Sequent}

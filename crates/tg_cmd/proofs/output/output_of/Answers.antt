@@ -1,4 +1,4 @@
-use Rattle.std.proofs.Common.{◌≡◌, rules}
+use Rattle.std.proofs.Common.{◌≡◌}
 use Rattle.tg_cmd.specs.Form.{Reads}
 use Rattle.tg_cmd.specs.Report.{report}
 use Rattle.tg_cmd.specs.Parts.{form_view}
