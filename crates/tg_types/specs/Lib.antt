@@ -1,2 +1,9 @@
 pub mod Types
+pub mod Substitutions
+pub mod Unifiers
+pub mod Walks
+pub mod Code
+pub mod View
+pub mod Refusals
 pub mod KnownValues
+pub mod KnownWalks

@@ -34,3 +34,6 @@ pub ty-App : (d : ℕ) (ts : List Ty) → ty (App d ts) ≡ model.applied d (mod
 ty-App d ts = ap ty (sym (rolls-App d ts)) ∙ fold-roll-Ty model.Ty ty_step _
 
 pub ruleset ty_laws = (ty-Nat, ty-Bool, ty-Param, ty-Meta, ty-App)
+
+abbrev pub types : List Ty → model.Tys
+types ts = model.tys (map ty ts)

@@ -1,0 +1,4 @@
+mod SubstitutionLaws
+mod WalkLaws
+mod Arguments
+mod Steps
