@@ -5,6 +5,7 @@ mod classes;
 mod formulas;
 mod terms;
 mod values;
+mod walking;
 
 pub use classes::{Class, Outcome, Pattern, Test};
 pub use formulas::Formula;

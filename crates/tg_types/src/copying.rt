@@ -11,7 +11,7 @@ use std::alloc::{AllocError, Global};
 
 /// The same type, in memory of its own.
 #[cycle(copy)]
-pub(crate) fn copy(alloc: Global, t: &Ty) -> Result<Ty, AllocError>
+pub fn copy(alloc: Global, t: &Ty) -> Result<Ty, AllocError>
     ensures { IfOk result (λ u. u ≡ t.now) }
 {
     match t {

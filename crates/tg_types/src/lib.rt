@@ -13,6 +13,7 @@ mod types;
 mod unifying;
 mod verdicts;
 
+pub use copying::copy;
 pub use names::Name;
 pub use options::Settings;
 pub use substitutions::Subst;
