@@ -6,5 +6,6 @@ pub mod Height
 pub mod KnownFormulas
 pub mod KnownValues
 pub mod Operators
+pub mod Substituting
 pub mod Values
 pub mod View

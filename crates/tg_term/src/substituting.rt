@@ -1,0 +1,205 @@
+//! Lifting, substitution, instantiation and abstraction of terms, each an instance of the walk. A
+//! variable's number that would pass 2^32, or binders nested beyond 2^64, are answered as want of memory.
+ghost use Rattle.std.specs.Prelude.{◌≡◌, ◌+◌, IfOk, unwrap_or, option_copied, slice_get, reverse};
+ghost use Rattle.tg_model.specs.Theory.{numbered};
+ghost use Rattle.tg_model.specs.Tree.{bound};
+ghost use Rattle.tg_model.specs.Walk.{walk, lifted};
+ghost use Rattle.tg_term.specs.Substituting.{IsLifted, IsSubstituted, IsInstantiated, IsAbstracted};
+
+use crate::terms::{Node, Term};
+use crate::walking::{Replace, or_shared, walk_at};
+use std::alloc::{AllocError, Global};
+
+/// Each loose bound variable goes up by `by`.
+#[tactic(auto, using(crate::proofs::Substituted::kept))]
+pub fn lift(alloc: Global, t: &Term, by: u32) -> Result<Term, AllocError>
+    ensures { IfOk result (λ u. IsLifted by t.now u) }
+{
+    lift_over(alloc, t, u64::from(by))
+}
+
+/// Each `Free(n)` becomes `vars[n - 1]`, lifted over the binders round it. A number that no term is given
+/// for, which no caller has, becomes False.
+#[tactic(auto, using(crate::proofs::Substituted::kept))]
+pub fn subst(alloc: Global, t: &Term, vars: &[Term]) -> Result<Term, AllocError>
+    ensures { IfOk result (λ u. IsSubstituted vars.now t.now u) }
+{
+    let walked = walk_at(alloc, &Terms { terms: vars }, t, 0)?;
+    or_shared(t, walked)
+}
+
+/// The last argument stands for the loose `Bound(0)`, the one before it for `Bound(1)` and so on, lifted
+/// over the binders round them. Other loose bound variables go down by the number of arguments.
+#[tactic(auto, using(crate::proofs::Substituted::kept))]
+pub fn instantiate(alloc: Global, body: &Term, args: &[Term]) -> Result<Term, AllocError>
+    ensures { IfOk result (λ u. IsInstantiated args.now body.now u) }
+{
+    let walked = walk_at(alloc, &Arguments { terms: args }, body, 0)?;
+    or_shared(body, walked)
+}
+
+/// Loose bound variables go up by 1, and `Free(n)` becomes the loose `Bound(0)`.
+#[tactic(auto, using(crate::proofs::Substituted::kept))]
+pub fn abstract_var(alloc: Global, t: &Term, n: u32) -> Result<Term, AllocError>
+    ensures { IfOk result (λ u. IsAbstracted n t.now u) }
+{
+    let walked = walk_at(alloc, &Abstraction { number: n }, t, 0)?;
+    or_shared(t, walked)
+}
+
+pub(crate) fn lift_over(alloc: Global, t: &Term, by: u64) -> Result<Term, AllocError>
+    ensures { IfOk result (λ u. u ≡ lifted by t.now) }
+{
+    let walked = walk_at(alloc, &Lifting { by }, t, 0)?;
+    or_shared(t, walked)
+}
+
+fn bound_variable(alloc: Global, index: u64) -> Result<Option<Term>, AllocError>
+    ensures { IfOk result (λ o. (t : _) → unwrap_or o t ≡ bound index) }
+{
+    match u32::try_from(index) {
+        Ok(index) => Ok(Some(Term::new(alloc, Node::Bound(index))?)),
+        Err(_) => Err(AllocError),
+    }
+}
+
+/// The loose bound variable, raised.
+fn raise(alloc: Global, index: u32, by: u64) -> Result<Option<Term>, AllocError>
+    ensures { IfOk result (λ o. (t : _) → unwrap_or o t ≡ bound (index + by)) }
+{
+    match u64::from(index).checked_add(by) {
+        Some(index) => bound_variable(alloc, index),
+        None => Err(AllocError),
+    }
+}
+
+#[derive(Clone, Copy, Debug)]
+struct Lifting {
+    by: u64,
+}
+
+impl Replace for Lifting {
+    ghost use Rattle.tg_model.specs.Walk.{raised, as_free};
+
+    ghost on_bound = { λ s. raised s.by };
+
+    ghost on_free = { λ _. as_free };
+
+    fn for_bound(&self, alloc: Global, depth: u64, index: u32) -> Result<Option<Term>, AllocError> {
+        if u64::from(index) < depth {
+            Ok(None)
+        } else {
+            raise(alloc, index, self.by)
+        }
+    }
+
+    fn for_free(&self, _alloc: Global, _depth: u64, _number: u32) -> Result<Option<Term>, AllocError> {
+        Ok(None)
+    }
+}
+
+/// The terms that stand for free variables.
+#[derive(Clone, Copy, Debug)]
+pub(crate) struct Terms<'a> {
+    pub(crate) terms: &'a [Term],
+}
+
+impl Replace for Terms<'_> {
+    ghost use Rattle.tg_model.specs.Walk.{as_bound, given};
+
+    ghost on_bound = { λ _. as_bound };
+
+    ghost on_free = { λ s. given s.terms.now };
+
+    fn for_bound(&self, _alloc: Global, _depth: u64, _index: u32) -> Result<Option<Term>, AllocError> {
+        Ok(None)
+    }
+
+    fn for_free(&self, alloc: Global, depth: u64, number: u32) -> Result<Option<Term>, AllocError> {
+        match numbered(self.terms, number) {
+            Some(u) => Ok(Some(lift_over(alloc, u, depth)?)),
+            None => Ok(Some(Term::new(alloc, Node::Truth(false))?)),
+        }
+    }
+}
+
+/// The item of a number, from 1.
+fn numbered(terms: &[Term], number: u32) -> Option<&Term>
+    ensures { option_copied result ≡ numbered terms.now number }
+{
+    match (number as usize).checked_sub(1) {
+        Some(at) => terms.get(at),
+        None => None,
+    }
+}
+
+/// The terms that stand for the innermost loose bound variables.
+#[derive(Clone, Copy, Debug)]
+pub(crate) struct Arguments<'a> {
+    pub(crate) terms: &'a [Term],
+}
+
+impl Replace for Arguments<'_> {
+    ghost use Rattle.tg_model.specs.Walk.{as_free, filled};
+
+    ghost on_bound = { λ s. filled s.terms.now };
+
+    ghost on_free = { λ _. as_free };
+
+    fn for_bound(&self, alloc: Global, depth: u64, index: u32) -> Result<Option<Term>, AllocError> {
+        match u64::from(index).checked_sub(depth) {
+            None => Ok(None),
+            Some(loose) => match from_the_end(self.terms, loose) {
+                Some(u) => Ok(Some(lift_over(alloc, u, depth)?)),
+                None => bound_variable(alloc, u64::from(index).saturating_sub(self.terms.len() as u64)),
+            },
+        }
+    }
+
+    fn for_free(&self, _alloc: Global, _depth: u64, _number: u32) -> Result<Option<Term>, AllocError> {
+        Ok(None)
+    }
+}
+
+/// The item of a place counted from the end, from 0.
+fn from_the_end(terms: &[Term], place: u64) -> Option<&Term>
+    ensures { option_copied result ≡ slice_get (reverse terms.now) place }
+{
+    match terms.len().checked_sub(1) {
+        None => None,
+        Some(last) => match last.checked_sub(place as usize) {
+            Some(at) => terms.get(at),
+            None => None,
+        },
+    }
+}
+
+/// The number of the free variable that is bound.
+#[derive(Clone, Copy, Debug)]
+pub(crate) struct Abstraction {
+    pub(crate) number: u32,
+}
+
+impl Replace for Abstraction {
+    ghost use Rattle.tg_model.specs.Walk.{raised, bound_for};
+
+    ghost on_bound = { λ _. raised 1 };
+
+    ghost on_free = { λ s. bound_for s.number };
+
+    fn for_bound(&self, alloc: Global, depth: u64, index: u32) -> Result<Option<Term>, AllocError> {
+        if u64::from(index) < depth {
+            Ok(None)
+        } else {
+            raise(alloc, index, 1)
+        }
+    }
+
+    fn for_free(&self, alloc: Global, depth: u64, number: u32) -> Result<Option<Term>, AllocError> {
+        if number == self.number {
+            bound_variable(alloc, depth)
+        } else {
+            Ok(None)
+        }
+    }
+}
