@@ -1,2 +1,3 @@
 pub mod Substituted
 pub mod WalkLists
+pub mod Unmoved

@@ -2,6 +2,7 @@
 #![tactic(auto)]
 
 mod classes;
+mod formula_walking;
 mod formulas;
 mod substituting;
 mod terms;
@@ -9,6 +10,7 @@ mod values;
 mod walking;
 
 pub use classes::{Class, Outcome, Pattern, Test};
+pub use formula_walking::{abstract_formula, instantiate_formula, subst_formula};
 pub use formulas::Formula;
 pub use substituting::{abstract_var, instantiate, lift, subst};
 pub use terms::{Branch, ConId, FunId, Node, OpId, Term};

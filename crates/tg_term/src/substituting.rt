@@ -47,9 +47,14 @@ pub fn abstract_var(alloc: Global, t: &Term, n: u32) -> Result<Term, AllocError>
     or_shared(t, walked)
 }
 
+/// A term that is lifted by nothing is shared and not walked over: most substitutions are under no binder.
+#[tactic(auto, using(crate::proofs::Unmoved::lifted_zero))]
 pub(crate) fn lift_over(alloc: Global, t: &Term, by: u64) -> Result<Term, AllocError>
     ensures { IfOk result (λ u. u ≡ lifted by t.now) }
 {
+    if by == 0 {
+        return t.share();
+    }
     let walked = walk_at(alloc, &Lifting { by }, t, 0)?;
     or_shared(t, walked)
 }

@@ -104,7 +104,7 @@ fn make_case(
 /// The terms that the walk gives, or `None` where nothing in them is replaced.
 #[cycle(walk)]
 #[tactic(auto, using(crate::proofs::WalkLists::walked))]
-fn walk_list<R: Replace>(alloc: Global, r: &R, ts: &[Term], depth: u64) -> Result<Option<Items<Term>>, AllocError>
+pub(crate) fn walk_list<R: Replace>(alloc: Global, r: &R, ts: &[Term], depth: u64) -> Result<Option<Items<Term>>, AllocError>
     ensures { IfOk result (λ o. trees (unwrap_or o ts.now) ≡ walk_all (R.on_bound r.now) (R.on_free r.now) depth (trees ts.now)) }
 {
     let mut out = Vec::new(alloc);
@@ -153,6 +153,16 @@ fn shared_branches(alloc: Global, bs: &[Branch]) -> Result<Items<Branch>, AllocE
             vars: b.vars,
             body: b.body.share()?,
         })?;
+    }
+    Ok(out)
+}
+
+pub(crate) fn shared_terms(alloc: Global, ts: &[Term]) -> Result<Items<Term>, AllocError>
+    ensures { IfOk result (λ us. us ≡ ts.now) }
+{
+    let mut out = Items::new(alloc);
+    for t in ts {
+        out.push(t.share()?)?;
     }
     Ok(out)
 }
