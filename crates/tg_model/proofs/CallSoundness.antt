@@ -1,26 +1,26 @@
 -- In a well-typed theory, on a table whose answers have the program's type, calls give values of their types: so every typed
 -- term has a value of its type.
-use Rattle.std.proofs.Common.{ℕ, zero, suc, ◌≡◌, ◌<◌, ◌≤◌, ◌+◌, ◌-◌, ◌⊎◌, Bool, true, false, List, [], ◌∷◌, ◌++◌, map, length, Option, Some, None, refl, sym, ◌∙◌, ap, subst, inl, inr, nat_eq, nat_lt, if◌then◌else◌, arith}
+use Rattle.std.proofs.Common.{ℕ, zero, suc, ◌≡◌, ◌<◌, ◌≤◌, ◌+◌, Bool, true, false, List, [], ◌∷◌, ◌++◌, map, length, Option, Some, refl, sym, ◌∙◌, ap, subst, inl, inr, nat_eq, nat_lt, if◌then◌else◌, arith}
 use Rattle.std.specs.Prelude.{slice_get, unwrap_or, option_map}
 use Rattle.std.specs.Option.{option_map_or}
 use Rattle.std.proofs.lemmas.Bool.{eq-eqb, ne_eqb, lt-ltb}
 use Rattle.std.proofs.lemmas.Bool.Decides.{eqb_tells}
 use Rattle.std.proofs.lemmas.List.{map-append, length-map}
 use Rattle.std.proofs.lemmas.Option.{slice_get-map, slice_get_within}
-use Rattle.tg_model.specs.Types.{Ty, nat, bool, applied, tys}
+use Rattle.tg_model.specs.Types.{Ty, tys}
 use Rattle.tg_model.specs.Tree as tree
 use Rattle.tg_model.specs.Tree.{Tree, Trees, Arms, bound, free, literal, truth, con, call, put, choice, case, bind, op, listed}
 use Rattle.tg_model.specs.Value.{Value, values, wrong, size, same_values}
 use Rattle.tg_model.specs.Theory.{Theory, Function, Body, plain, recursive, numbered, first_constructor, instance, datatype_of, IsClosed, AreClosed}
 use Rattle.tg_model.specs.Typing.{HasType, AreTyped, least}
 use Rattle.tg_model.specs.Table.{Table, recorded, answer_of, IsTable}
-use Rattle.tg_model.specs.Denotation.{World, value_in, values_in, opened, place_of, others, lower_calls, case_value, recursive_value, body_value, world_below, world, den}
-use Rattle.tg_model.specs.TermTyping.{Typing, IsTyping, IsTyped, type_of, EachCall, EachCalls, EachCallOf, IsDatatype, datatype_at, constructor_arguments}
+use Rattle.tg_model.specs.Denotation.{World, value_in, values_in, opened, place_of, others, lower_calls, recursive_value, body_value, world_below, world, den}
+use Rattle.tg_model.specs.TermTyping.{IsTyped, type_of, EachCall, EachCalls, EachCallOf, IsDatatype, datatype_at, constructor_arguments}
 use Rattle.tg_model.specs.WellTyped.{IsLower, AreCases, IsBody, IsWellTyped}
 use Rattle.tg_model.specs.Laws.{IsTypeSound}
 use Rattle.tg_model.proofs.Places.{get_right}
 use Rattle.tg_model.proofs.Inhabited.{least_has_type, closed_instance, list_closed_instance, if_true, if_false}
-use Rattle.tg_model.proofs.ValueTyping.{typed_append, typed_length, Opens, opens}
+use Rattle.tg_model.proofs.ValueTyping.{typed_append, typed_length, opens}
 use Rattle.tg_model.proofs.TermSoundness.{sound, datatype_instance, is_datatype_instance, arguments_composed, mapped_back}
 use Rattle.tg_model.proofs.TheorySoundness.{world_first, world_answers, smaller, case_at, typed_others, typed_place, listed_value}
 

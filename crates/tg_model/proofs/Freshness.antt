@@ -1,5 +1,5 @@
 -- A value depends on the variables that stand in the term, and on no other.
-use Rattle.std.proofs.Common.{ℕ, zero, suc, ◌≡◌, ◌≢◌, Bool, true, false, ◌||◌, List, [], ◌∷◌, ◌++◌, reverse, length, Option, Some, None, refl, sym, ◌∙◌, ap, nat_eq, if◌then◌else◌}
+use Rattle.std.proofs.Common.{ℕ, zero, suc, ◌≡◌, Bool, true, false, ◌||◌, List, ◌∷◌, ◌++◌, reverse, length, Option, refl, ◌∙◌, ap, nat_eq}
 use Rattle.std.specs.Prelude.{unwrap_or}
 use Rattle.std.specs.Option.{option_map_or}
 use Rattle.std.proofs.lemmas.Bool.{eq-eqb}
@@ -7,7 +7,7 @@ use Rattle.tg_model.specs.Tree as tree
 use Rattle.tg_model.specs.Tree.{Tree, Trees, Arms, bound, free, literal, truth, con, call, put, choice, case, bind, op, arm, end}
 use Rattle.tg_model.specs.Value.{Value, made, values, boolean, wrong, IsShallow}
 use Rattle.tg_model.specs.Formula.{Formula, atom, both, implies, all, some, thyp, tested, deep}
-use Rattle.tg_model.specs.Theory.{Theory, numbered}
+use Rattle.tg_model.specs.Theory.{Theory}
 use Rattle.tg_model.specs.Typing.{HasType}
 use Rattle.tg_model.specs.Table.{Table, IsListed}
 use Rattle.tg_model.specs.Denotation.{World, value_in, values_in, branch_in, opened, operated, chosen, world}

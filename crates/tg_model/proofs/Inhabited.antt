@@ -1,5 +1,5 @@
 -- In a well-typed theory the least value of a closed type has the type.
-use Rattle.std.proofs.Common.{ℕ, zero, suc, ◌≡◌, ◌<◌, ◌≤◌, ◌+◌, ◌-◌, Bool, true, false, List, [], ◌∷◌, ◌++◌, map, length, Option, Some, None, refl, sym, ◌∙◌, ap, subst, inl, inr, nat_eq, if◌then◌else◌, arith}
+use Rattle.std.proofs.Common.{ℕ, zero, suc, ◌≡◌, ◌<◌, ◌≤◌, ◌+◌, ◌-◌, Bool, true, false, List, [], ◌∷◌, ◌++◌, map, length, Option, Some, refl, sym, ◌∙◌, ap, subst, inl, inr, nat_eq, if◌then◌else◌, arith}
 use Rattle.std.specs.Prelude.{slice_get, unwrap_or, option_map}
 use Rattle.std.specs.Option.{option_map_or}
 use Rattle.std.specs.List.{list_any}
@@ -8,10 +8,10 @@ use Rattle.std.proofs.lemmas.List.{length-map}
 use Rattle.std.proofs.lemmas.Option.{slice_get-map, slice_get_within}
 use Rattle.tg_model.specs.Types as types
 use Rattle.tg_model.specs.Types.{Ty, nat, bool, parameter, meta, applied, Tys, tys}
-use Rattle.tg_model.specs.Value.{Value, number, boolean, made, values, wrong}
+use Rattle.tg_model.specs.Value.{Value, made, values, wrong}
 use Rattle.tg_model.specs.Theory.{Theory, Datatype, Constructor, Owned, numbered, constructors_from, constructor_at, constructors_before, first_constructor, instance, instances, datatype_of, IsClosed, AreClosed}
-use Rattle.tg_model.specs.Typing.{HasType, HaveTypes, AreTyped, base_constructor, least_at, all_least, least_below, least}
-use Rattle.tg_model.specs.WellTyped.{IsBefore, AreBefore, IsInhabited, IsWellTyped}
+use Rattle.tg_model.specs.Typing.{HasType, AreTyped, base_constructor, least_at, all_least, least_below, least}
+use Rattle.tg_model.specs.WellTyped.{IsBefore, AreBefore, IsWellTyped}
 use Rattle.tg_model.proofs.Places.{get_left, get_past}
 
 abbrev owned : ℕ → Constructor → Owned

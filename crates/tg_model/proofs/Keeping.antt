@@ -1,6 +1,6 @@
 -- The laws of substitution and of used variables, as the crate's functions carry them.
-use Rattle.std.proofs.Common.{ℕ, ◌≡◌, ◌↔◌, List, map, reverse, ◌++◌, length, refl, sym, subst}
-use Rattle.tg_model.specs.Denotation.{world, den}
+use Rattle.std.proofs.Common.{◌≡◌, ◌↔◌, length, refl, sym, subst}
+use Rattle.tg_model.specs.Denotation.{world}
 use Rattle.tg_model.specs.Laws.{LiftingKeeps, SubstitutionKeeps, InstantiationKeeps, AbstractionKeeps, SubstitutionKeepsTruth, InstantiationKeepsTruth, AbstractionKeepsTruth, DependsOnUsed, TruthDependsOnUsed, LiftingKeepsTypes, SubstitutionKeepsTypes, InstantiationKeepsTypes, AbstractionKeepsTypes, SubstitutionKeepsForm, InstantiationKeepsForm, AbstractionKeepsForm}
 use Rattle.tg_model.proofs.Substitutions.{lifted_value, substituted_value, instantiated_value, abstracted_value, substituted_truth, instantiated_truth, abstracted_truth}
 use Rattle.tg_model.proofs.TypedSubstitutions.{lifted_typed, substituted_typed, instantiated_typed, abstracted_typed, substituted_well_formed, instantiated_well_formed, abstracted_well_formed}

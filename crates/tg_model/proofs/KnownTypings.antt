@@ -1,12 +1,11 @@
 -- Typings that are known by hand, in a theory of lists.
-use Rattle.std.proofs.Common.{ℕ, zero, suc, ◌≡◌, ◌<◌, Bool, true, false, refl, sym, ap, List, [], ◌∷◌, Some, None, inl, inr, arith, lit<, lit≤, subst}
+use Rattle.std.proofs.Common.{ℕ, zero, suc, ◌≡◌, true, refl, List, [], ◌∷◌, Some, None, inl, inr, lit<, lit≤, subst}
 use Rattle.std.specs.Prelude.{codes, slice_get}
 use Rattle.tg_model.specs.Tree as tree
 use Rattle.tg_model.specs.Tree.{Tree, bound, free, literal, truth, con, call, put, case, bind, op, one, two, trees, equality, plus, choice}
 use Rattle.tg_model.specs.Types.{Ty, nat, bool, parameter, applied, tys}
-use Rattle.tg_model.specs.Formula.{atom, all, implies, tested, deep}
 use Rattle.tg_model.specs.Theory.{Theory, Datatype, Function, numbered}
-use Rattle.tg_model.specs.TermTyping.{Typing, leaf, instanced, compound, branching, binding, none, more, end, arm, IsTyping, IsTyped, IsWellFormed, EachCall, type_of, Typings}
+use Rattle.tg_model.specs.TermTyping.{Typing, leaf, instanced, compound, branching, binding, none, more, end, arm, IsTyping, IsTyped, type_of, Typings}
 use Rattle.tg_model.specs.WellTyped.{IsWellTyped, IsInhabited, IsBody}
 use Rattle.tg_model.proofs.KnownValues.{list_of, nil, cons, sorting, nil_of, cons_of, lists, trees_of_naturals, pairs, ins, sort, sum, double}
 

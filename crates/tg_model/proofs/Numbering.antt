@@ -1,9 +1,9 @@
 -- Constructors are numbered through all datatypes: a constructor's number tells its datatype and its place there.
-use Rattle.std.proofs.Common.{ℕ, zero, suc, ◌≡◌, ◌<◌, ◌≤◌, ◌+◌, ◌-◌, ◌⊎◌, List, [], ◌∷◌, ◌++◌, map, length, Option, Some, None, refl, sym, ◌∙◌, ap, subst, inl, inr, arith}
+use Rattle.std.proofs.Common.{ℕ, zero, suc, ◌≡◌, ◌<◌, ◌≤◌, ◌+◌, ◌-◌, ◌⊎◌, List, [], ◌∷◌, ◌++◌, map, length, Option, Some, None, refl, sym, ◌∙◌, ap, inl, inr, arith}
 use Rattle.std.specs.Prelude.{slice_get, option_map}
 use Rattle.std.proofs.lemmas.Option.{slice_get-map}
 use Rattle.std.proofs.lemmas.List.{length-map}
-use Rattle.tg_model.specs.Theory.{Theory, Datatype, Constructor, Owned, constructors_from, constructor_at, constructors_before, first_constructor, numbered}
+use Rattle.tg_model.specs.Theory.{Theory, Datatype, Constructor, Owned, constructors_from, constructor_at, constructors_before, first_constructor}
 use Rattle.tg_model.proofs.Places.{get_left, get_past}
 
 -- what a place in the list of all constructors, from 0, tells

@@ -12,7 +12,7 @@ use Rattle.tg_model.specs.Theory.{Theory, numbered}
 use Rattle.tg_model.specs.Table.{Table}
 use Rattle.tg_model.specs.Denotation.{World, value_in, world}
 use Rattle.tg_model.specs.Truth.{Holds}
-use Rattle.tg_model.specs.Walk.{walk, walk_formula, raised, as_free, as_bound, lifted, given, substituted, filled, instantiated, bound_for, abstracted, substituted_formula, instantiated_formula, abstracted_formula}
+use Rattle.tg_model.specs.Walk.{walk, raised, as_free, as_bound, lifted, given, substituted, filled, instantiated, bound_for, abstracted, substituted_formula, instantiated_formula, abstracted_formula}
 use Rattle.tg_model.proofs.Places.{get_left, get_past, none_past, map-reverse}
 use Rattle.tg_model.proofs.Walks.{keeps, keeps_truth}
 

@@ -1,21 +1,21 @@
 -- A term with a typing has, where its variables' values have their types, a value of its type.
-use Rattle.std.proofs.Common.{ℕ, zero, suc, ◌≡◌, ◌+◌, Bool, true, false, List, [], ◌∷◌, ◌++◌, map, reverse, length, Option, Some, None, refl, sym, ◌∙◌, ap, subst, nat_eq, if◌then◌else◌}
+use Rattle.std.proofs.Common.{ℕ, zero, suc, ◌≡◌, Bool, true, false, List, [], ◌∷◌, ◌++◌, map, reverse, length, Option, Some, None, refl, sym, ◌∙◌, ap, subst, nat_eq, if◌then◌else◌}
 use Rattle.std.specs.Prelude.{slice_get, unwrap_or, option_map}
 use Rattle.std.specs.Option.{option_map_or}
 use Rattle.std.proofs.lemmas.Bool.{eq-eqb}
 use Rattle.std.proofs.lemmas.List.{map-append, length-map}
 use Rattle.std.proofs.lemmas.Option.{slice_get-map}
-use Rattle.tg_model.specs.Types.{Ty, nat, bool, applied, tys}
+use Rattle.tg_model.specs.Types.{Ty, applied}
 use Rattle.tg_model.specs.Tree as tree
 use Rattle.tg_model.specs.Tree.{Tree, Trees, Arms, bound, free, literal, truth, con, call, put, choice, case, bind, op}
-use Rattle.tg_model.specs.Value.{Value, number, boolean, made, values, wrong}
+use Rattle.tg_model.specs.Value.{Value, wrong}
 use Rattle.tg_model.specs.Theory.{Theory, Datatype, Constructor, Function, numbered, first_constructor, instance}
 use Rattle.tg_model.specs.Typing.{HasType, AreTyped}
-use Rattle.tg_model.specs.Denotation.{World, value_in, values_in, branch_in, opened, operated, chosen}
+use Rattle.tg_model.specs.Denotation.{World, value_in, values_in, branch_in, opened}
 use Rattle.tg_model.specs.TermTyping.{Typing, Typings, ArmTypings, leaf, instanced, compound, branching, binding, none, more, end, arm, type_of, types_of, IsTyping, AreTypings, AreArmTypings, IsDatatype, datatype_at, constructor_arguments, EachCall, EachCalls, EachCallOf}
 use Rattle.tg_model.proofs.Places.{map-reverse}
 use Rattle.tg_model.proofs.Instances.{instances_tys, composed, list_composed}
-use Rattle.tg_model.proofs.ValueTyping.{typed_at, typed_append, typed_reverse, typed_length, chosen_typed, operated_typed, Opens, opens}
+use Rattle.tg_model.proofs.ValueTyping.{typed_at, typed_append, typed_reverse, typed_length, chosen_typed, operated_typed, opens}
 
 pub datatype_instance : (us : List Ty) (n : ℕ) (ts : List Ty) → instance us (datatype_at n ts) ≡ datatype_at n (map (instance us) ts)
 datatype_instance us zero ts = refl

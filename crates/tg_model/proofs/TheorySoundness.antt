@@ -1,24 +1,19 @@
 -- In a well-typed theory, on answers of the program's type, calls of functions give values of their types.
-use Rattle.std.proofs.Common.{ℕ, zero, suc, ◌≡◌, ◌<◌, ◌≤◌, ◌+◌, ◌-◌, ◌⊎◌, Bool, true, false, List, [], ◌∷◌, ◌++◌, map, length, take, drop, Option, Some, None, refl, sym, ◌∙◌, ap, subst, inl, inr, nat_eq, nat_lt, nat_le, if◌then◌else◌, arith}
-use Rattle.std.specs.Prelude.{slice_get, unwrap_or, option_map}
-use Rattle.std.specs.Option.{option_map_or}
-use Rattle.std.proofs.lemmas.Bool.{eq-eqb, lt-ltb}
-use Rattle.std.proofs.lemmas.Bool.Decides.{eqb_tells}
-use Rattle.std.proofs.lemmas.List.{map-append, length-map}
-use Rattle.tg_model.specs.Types.{Ty, nat, bool, applied, tys}
+use Rattle.std.proofs.Common.{ℕ, zero, suc, ◌≡◌, ◌<◌, ◌≤◌, ◌-◌, Bool, true, false, List, [], ◌∷◌, ◌++◌, map, length, take, drop, Some, None, refl, sym, ◌∙◌, ap, subst, nat_le, if◌then◌else◌, arith}
+use Rattle.std.specs.Prelude.{slice_get, option_map}
+use Rattle.std.proofs.lemmas.List.{map-append}
+use Rattle.tg_model.specs.Types.{Ty}
 use Rattle.tg_model.specs.Tree as tree
 use Rattle.tg_model.specs.Tree.{Tree, Trees, free, listed}
 use Rattle.tg_model.specs.Value as value
 use Rattle.tg_model.specs.Value.{Value, Values, number, boolean, made, wrong, size, total_size}
-use Rattle.tg_model.specs.Theory.{Theory, Datatype, Function, Body, plain, recursive, numbered, first_constructor, instance, datatype_of}
+use Rattle.tg_model.specs.Theory.{Theory, Function, numbered, first_constructor}
 use Rattle.tg_model.specs.Typing.{HasType, AreTyped}
 use Rattle.tg_model.specs.Table.{Table, answer_of}
-use Rattle.tg_model.specs.Denotation.{World, value_in, values_in, opened, place_of, others, lower_calls, case_value, recursive_value, body_value, world_below, world}
-use Rattle.tg_model.specs.TermTyping.{IsTyped, EachCall, IsDatatype, datatype_at, constructor_arguments}
-use Rattle.tg_model.specs.WellTyped.{IsLower, AreCases, IsBody, IsWellTyped}
-use Rattle.tg_model.proofs.Places.{get_right}
-use Rattle.tg_model.proofs.ValueTyping.{typed_at, typed_append, typed_length, Opens, opens}
-use Rattle.tg_model.proofs.TermSoundness.{sound, datatype_instance, is_datatype_instance, arguments_composed, mapped_back}
+use Rattle.tg_model.specs.Denotation.{World, value_in, values_in, opened, place_of, others, world_below}
+use Rattle.tg_model.specs.TermTyping.{IsTyped, EachCall}
+use Rattle.tg_model.specs.WellTyped.{IsLower, AreCases}
+use Rattle.tg_model.proofs.ValueTyping.{typed_at, typed_append}
 
 pub world_first : (th : Theory) (tb : Table) (n d : ℕ) → (world_below th tb n).first d ≡ first_constructor th.datatypes d
 world_first th tb zero d = refl

@@ -6,12 +6,12 @@ use mathlib.Core.List.{reverse_aux}
 use Rattle.std.proofs.lemmas.List.{length-reverse}
 use Rattle.std.proofs.lemmas.Option.{slice_get_within}
 use Rattle.std.proofs.lemmas.Bool.{ltb-true, ltb-false, eqb-true, eqb-false}
-use Rattle.tg_model.specs.Types.{Ty, bool}
+use Rattle.tg_model.specs.Types.{Ty}
 use Rattle.tg_model.specs.Tree.{Tree, bound, free, truth}
 use Rattle.tg_model.specs.Formula.{Formula}
 use Rattle.tg_model.specs.Theory.{Theory, numbered}
-use Rattle.tg_model.specs.TermTyping.{Typing, leaf, IsTyping, IsTyped, IsWellFormed, AreListTyped}
-use Rattle.tg_model.specs.Walk.{walk, walk_formula, raised, as_free, as_bound, lifted, given, substituted, filled, instantiated, bound_for, abstracted, substituted_formula, instantiated_formula, abstracted_formula}
+use Rattle.tg_model.specs.TermTyping.{leaf, IsTyped, IsWellFormed, AreListTyped}
+use Rattle.tg_model.specs.Walk.{raised, as_free, as_bound, lifted, given, substituted, filled, instantiated, bound_for, abstracted, substituted_formula, instantiated_formula, abstracted_formula}
 use Rattle.tg_model.proofs.Places.{get_left, get_past, none_past}
 use Rattle.tg_model.proofs.TypedWalks.{keeps_typed, keeps_well_formed}
 

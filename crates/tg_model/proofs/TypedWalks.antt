@@ -1,17 +1,13 @@
 -- A walk keeps types: where what stands for each variable has the variable's type, the term that was walked to has the
 -- term's type.
-use Rattle.std.proofs.Common.{ℕ, zero, suc, ◌≡◌, ◌≢◌, ◌<◌, ◌≤◌, ◌+◌, ◌-◌, Bool, true, false, List, [], ◌∷◌, ◌++◌, reverse, length, Option, Some, None, refl, sym, ◌∙◌, ap, subst, nat_eq, nat_lt, if◌then◌else◌, arith, length-append, append_assoc}
+use Rattle.std.proofs.Common.{ℕ, ◌≡◌, ◌+◌, List, [], ◌∷◌, ◌++◌, reverse, length, Some, refl, sym, ◌∙◌, subst}
 use Rattle.std.specs.Prelude.{slice_get}
-use Rattle.std.specs.Option.{option_map_or}
-use Rattle.std.proofs.lemmas.List.{length-reverse}
-use Rattle.std.proofs.lemmas.Option.{slice_get_within}
-use Rattle.std.proofs.lemmas.Bool.{ltb-true, ltb-false, eqb-true, eqb-false}
-use Rattle.tg_model.specs.Types.{Ty, nat, bool, applied, tys}
+use Rattle.tg_model.specs.Types.{Ty, bool}
 use Rattle.tg_model.specs.Tree as tree
 use Rattle.tg_model.specs.Tree.{Tree, Trees, Arms, bound, free, literal, truth, con, call, put, choice, case, bind, op}
 use Rattle.tg_model.specs.Formula.{Formula, atom, both, implies, all, some, thyp, tested, deep}
-use Rattle.tg_model.specs.Theory.{Theory, numbered, instance}
-use Rattle.tg_model.specs.TermTyping.{Typing, Typings, ArmTypings, leaf, instanced, compound, branching, binding, none, more, end, arm, type_of, types_of, IsOperation, IsDatatype, datatype_at, constructor_arguments, IsTyping, AreTypings, AreArmTypings, IsTyped, AllTyped, IsWellFormed}
+use Rattle.tg_model.specs.Theory.{Theory, numbered}
+use Rattle.tg_model.specs.TermTyping.{Typing, Typings, ArmTypings, leaf, instanced, compound, branching, binding, none, more, end, arm, type_of, types_of, IsOperation, constructor_arguments, IsTyping, AreTypings, AreArmTypings, IsTyped, AllTyped, IsWellFormed}
 use Rattle.tg_model.specs.Walk.{walk, walk_all, walk_arms, walk_formula}
 
 -- `vars` and `vars'` are the types of the free variables before and after, `Reads d locs locs'` relates those of the loose

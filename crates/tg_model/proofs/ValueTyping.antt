@@ -14,7 +14,7 @@ use Rattle.tg_model.specs.Theory.{Theory, Datatype, Constructor, Owned, first_co
 use Rattle.tg_model.specs.Typing.{HasType, HaveTypes, AreTyped}
 use Rattle.tg_model.specs.Denotation.{opened, operated, chosen, on_number, on_numbers, on_truth, on_truths, quotient, remainder}
 use Rattle.tg_model.specs.TermTyping.{IsOperation, IsDatatype, datatype_at, constructor_arguments}
-use Rattle.tg_model.proofs.Numbering.{Numbered, numbered_constructor}
+use Rattle.tg_model.proofs.Numbering.{numbered_constructor}
 
 pub values-listed : (vs : Values) → values (listed vs) ≡ vs
 values-listed value.none = refl

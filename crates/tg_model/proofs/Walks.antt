@@ -1,14 +1,13 @@
 -- A walk keeps values: where what stands for each variable has the variable's value, the term that was walked over has the
 -- term's value.
-use Rattle.std.proofs.Common.{ℕ, zero, suc, ◌≡◌, ◌+◌, ◌-◌, Bool, true, false, List, [], ◌∷◌, ◌++◌, reverse, length, Option, Some, None, refl, sym, ◌∙◌, ap, subst, nat_eq, if◌then◌else◌, arith}
-use Rattle.std.specs.Prelude.{slice_get, unwrap_or}
+use Rattle.std.proofs.Common.{ℕ, zero, suc, ◌≡◌, ◌+◌, Bool, true, false, List, [], ◌∷◌, ◌++◌, reverse, length, Option, Some, None, refl, sym, ◌∙◌, ap, subst, nat_eq, if◌then◌else◌}
 use Rattle.std.specs.Option.{option_map_or}
 use Rattle.std.proofs.lemmas.Bool.{eqb-true}
 use Rattle.tg_model.specs.Tree as tree
 use Rattle.tg_model.specs.Tree.{Tree, Trees, Arms, bound, free, literal, truth, con, call, put, choice, case, bind, op, arm, end}
 use Rattle.tg_model.specs.Value.{Value, made, values, boolean, wrong}
 use Rattle.tg_model.specs.Formula.{Formula, atom, both, implies, all, some, thyp, tested, deep}
-use Rattle.tg_model.specs.Theory.{Theory, numbered}
+use Rattle.tg_model.specs.Theory.{Theory}
 use Rattle.tg_model.specs.Typing.{HasType}
 use Rattle.tg_model.specs.Table.{Table, IsListed}
 use Rattle.tg_model.specs.Value.{IsShallow}

@@ -1,13 +1,12 @@
 -- Typings of terms. A typing is a tree: it gives a type to each node and binder, and an instance to each use of a
 -- constructor or a function. `IsTyping` says when a tree of types is a typing of a term.
-use Rattle.std.specs.Prelude.{ℕ, zero, suc, ◌≡◌, ◌<◌, ◌+◌, ◌++◌, ◌⊎◌, List, [], ◌∷◌, map, reverse, length, Option, Some, None, slice_get}
+use Rattle.std.specs.Prelude.{ℕ, zero, suc, ◌≡◌, ◌++◌, List, [], ◌∷◌, map, reverse, length, Some, slice_get}
 use Rattle.std.specs.Option.{option_map_or}
 use Rattle.tg_model.specs.Tree as tree
 use Rattle.tg_model.specs.Tree.{Tree, Trees, Arms, bound, free, literal, truth, con, call, put, choice, case, bind, op, Operator, successor, negation, conjunction, disjunction, implication, equality, less, less_equal, plus, minus, times, divide, modulo, unnamed}
 use Rattle.tg_model.specs.Types.{Ty, nat, bool, applied, tys}
 use Rattle.tg_model.specs.Formula.{Formula, atom, both, implies, all, some, thyp, tested, deep}
-use Rattle.tg_model.specs.Theory.{Theory, Datatype, Constructor, Function, Body, plain, recursive, Owned, constructor_at, numbered, instance, datatype_of, IsClosed}
-use Rattle.tg_model.specs.Denotation.{others}
+use Rattle.tg_model.specs.Theory.{Theory, Datatype, Constructor, Function, Owned, constructor_at, numbered, instance, IsClosed}
 
 mutual
   pub data Typing : Type 0 where

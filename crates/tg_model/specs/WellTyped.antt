@@ -1,5 +1,5 @@
 -- Theories whose bodies are well typed and well shaped: what acceptance gives, and all that the meaning rests on.
-use Rattle.std.specs.Prelude.{ℕ, zero, suc, ◌≡◌, ◌<◌, ◌≤◌, ◌+◌, ◌⊎◌, ◌++◌, List, [], ◌∷◌, length, Some, slice_get}
+use Rattle.std.specs.Prelude.{ℕ, suc, ◌≡◌, ◌<◌, ◌≤◌, ◌+◌, ◌⊎◌, ◌++◌, List, [], ◌∷◌, length, Some, slice_get}
 use Rattle.tg_model.specs.Tree.{Tree, Trees, free, listed}
 use Rattle.tg_model.specs.Types as types
 use Rattle.tg_model.specs.Types.{Ty, nat, bool, parameter, meta, applied, Tys, tys}

@@ -1,3 +1,4 @@
+pub mod Compared
 pub mod Substituted
-pub mod WalkLists
 pub mod Unmoved
+pub mod WalkLists

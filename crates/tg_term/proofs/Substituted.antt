@@ -12,7 +12,7 @@ lifted_itself : (by : ℕ) (t : Tree) → IsLifted by t (lifted by t)
 lifted_itself by t = record {
   is = refl;
   value = λ th tb env between loc e.
-    subst (λ (n : ℕ). den th tb env (between ++ loc) (lifted n t) ≡ den th tb env loc t) e (lifting_keeps th tb env between loc t);
+      subst (λ (n : ℕ). den th tb env (between ++ loc) (lifted n t) ≡ den th tb env loc t) e (lifting_keeps th tb env between loc t);
 }
 
 pub is_lifted : (by : ℕ) (t u : Tree) → u ≡ lifted by t → IsLifted by t u

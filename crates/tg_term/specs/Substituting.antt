@@ -26,7 +26,7 @@ pub record IsInstantiated (us : List Tree) (t u : Tree) : Type 0 where
 pub record IsAbstracted (n : ℕ) (t u : Tree) : Type 0 where
   pub is : u ≡ abstracted n t
   pub value : (th : Theory) (tb : Table) (env env' loc : List Value) (v : Value) → numbered env n ≡ Some v
-    → ((m : ℕ) → m ≢ n → numbered env' m ≡ numbered env m) → den th tb env' (v ∷ loc) u ≡ den th tb env loc t
+      → ((m : ℕ) → m ≢ n → numbered env' m ≡ numbered env m) → den th tb env' (v ∷ loc) u ≡ den th tb env loc t
 
 pub record IsSubstitutedFormula (us : List Tree) (f g : Formula) : Type 0 where
   pub is : g ≡ substituted_formula us f
@@ -39,4 +39,4 @@ pub record IsInstantiatedFormula (us : List Tree) (f g : Formula) : Type 0 where
 pub record IsAbstractedFormula (n : ℕ) (f g : Formula) : Type 0 where
   pub is : g ≡ abstracted_formula n f
   pub truth : (th : Theory) (tb : Table) (env env' loc : List Value) (v : Value) → numbered env n ≡ Some v
-    → ((m : ℕ) → m ≢ n → numbered env' m ≡ numbered env m) → Holds th tb env' (v ∷ loc) g ↔ Holds th tb env loc f
+      → ((m : ℕ) → m ≢ n → numbered env' m ≡ numbered env m) → Holds th tb env' (v ∷ loc) g ↔ Holds th tb env loc f

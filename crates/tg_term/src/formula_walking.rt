@@ -25,7 +25,11 @@ pub fn subst_formula(alloc: Global, f: &Formula, vars: &[Term]) -> Result<Formul
 /// The last argument stands for the loose `Bound(0)`, the one before it for `Bound(1)` and so on. Other
 /// loose bound variables go down by the number of arguments.
 #[tactic(auto, using(crate::proofs::Substituted::kept))]
-pub fn instantiate_formula(alloc: Global, body: &Formula, args: &[Term]) -> Result<Formula, AllocError>
+pub fn instantiate_formula(
+    alloc: Global,
+    body: &Formula,
+    args: &[Term],
+) -> Result<Formula, AllocError>
     ensures { IfOk result (λ g. IsInstantiatedFormula args.now (formula body.now) (formula g)) }
 {
     walk_formula_at(alloc, &Arguments { terms: args }, body, 0)
@@ -41,7 +45,12 @@ pub fn abstract_formula(alloc: Global, f: &Formula, n: u32) -> Result<Formula, A
 
 #[cycle(walk_formula)]
 #[tactic(auto, using(crate::specs::Formulas::formula_laws))]
-fn walk_formula_at<R: Replace>(alloc: Global, r: &R, f: &Formula, depth: u64) -> Result<Formula, AllocError>
+fn walk_formula_at<R: Replace>(
+    alloc: Global,
+    r: &R,
+    f: &Formula,
+    depth: u64,
+) -> Result<Formula, AllocError>
     ensures { IfOk result (λ g. formula g ≡ walk_formula (R.on_bound r.now) (R.on_free r.now) depth (formula f.now)) }
 {
     match f {
@@ -58,18 +67,26 @@ fn walk_formula_at<R: Replace>(alloc: Global, r: &R, f: &Formula, depth: u64) ->
             let f = walk_boxed(alloc, r, f, within(depth, 1)?)?;
             Ok(Formula::All(copy(alloc, t)?, f))
         }
-        Formula::Ex(t, f) => {
-            let f = walk_boxed(alloc, r, f, within(depth, 1)?)?;
-            Ok(Formula::Ex(copy(alloc, t)?, f))
+        Formula::Ex(t, g) => {
+            let g = walk_boxed(alloc, r, g, within(depth, 1)?)?;
+            Ok(Formula::Ex(copy(alloc, t)?, g))
         }
         Formula::Thyp(f) => Ok(Formula::Thyp(walk_boxed(alloc, r, f, depth)?)),
         Formula::Tested(ts) => Ok(Formula::Tested(walked_terms(alloc, r, ts.as_slice(), depth)?)),
-        Formula::Deep(k, ts) => Ok(Formula::Deep(*k, walked_terms(alloc, r, ts.as_slice(), depth)?)),
+        Formula::Deep(k, ts) => Ok(Formula::Deep(
+            *k,
+            walked_terms(alloc, r, ts.as_slice(), depth)?,
+        )),
     }
 }
 
 #[cycle(walk_formula)]
-fn walk_boxed<R: Replace>(alloc: Global, r: &R, f: &Boxed<Formula>, depth: u64) -> Result<Boxed<Formula>, AllocError>
+fn walk_boxed<R: Replace>(
+    alloc: Global,
+    r: &R,
+    f: &Boxed<Formula>,
+    depth: u64,
+) -> Result<Boxed<Formula>, AllocError>
     ensures { IfOk result (λ g. formula g ≡ walk_formula (R.on_bound r.now) (R.on_free r.now) depth (formula f.now)) }
 {
     Boxed::new(alloc, walk_formula_at(alloc, r, f.get(), depth)?)
@@ -82,7 +99,12 @@ fn walked_term<R: Replace>(alloc: Global, r: &R, t: &Term, depth: u64) -> Result
     or_shared(t, walked)
 }
 
-fn walked_terms<R: Replace>(alloc: Global, r: &R, ts: &[Term], depth: u64) -> Result<Items<Term>, AllocError>
+fn walked_terms<R: Replace>(
+    alloc: Global,
+    r: &R,
+    ts: &[Term],
+    depth: u64,
+) -> Result<Items<Term>, AllocError>
     ensures { IfOk result (λ us. trees us ≡ walk_all (R.on_bound r.now) (R.on_free r.now) depth (trees ts.now)) }
 {
     match walk_list(alloc, r, ts, depth)? {

@@ -2,14 +2,18 @@
 #![tactic(auto)]
 
 mod classes;
+mod comparing;
 mod formula_walking;
 mod formulas;
 mod substituting;
 mod terms;
+#[cfg(test)]
+mod tests;
 mod values;
 mod walking;
 
 pub use classes::{Class, Outcome, Pattern, Test};
+pub use comparing::same;
 pub use formula_walking::{abstract_formula, instantiate_formula, subst_formula};
 pub use formulas::Formula;
 pub use substituting::{abstract_var, instantiate, lift, subst};

@@ -91,14 +91,20 @@ impl Replace for Lifting {
     ghost on_free = { λ _. as_free };
 
     fn for_bound(&self, alloc: Global, depth: u64, index: u32) -> Result<Option<Term>, AllocError> {
-        if u64::from(index) < depth {
-            Ok(None)
-        } else {
+        let is_loose = depth <= u64::from(index);
+        if is_loose {
             raise(alloc, index, self.by)
+        } else {
+            Ok(None)
         }
     }
 
-    fn for_free(&self, _alloc: Global, _depth: u64, _number: u32) -> Result<Option<Term>, AllocError> {
+    fn for_free(
+        &self,
+        _alloc: Global,
+        _depth: u64,
+        _number: u32,
+    ) -> Result<Option<Term>, AllocError> {
         Ok(None)
     }
 }
@@ -116,7 +122,12 @@ impl Replace for Terms<'_> {
 
     ghost on_free = { λ s. given s.terms.now };
 
-    fn for_bound(&self, _alloc: Global, _depth: u64, _index: u32) -> Result<Option<Term>, AllocError> {
+    fn for_bound(
+        &self,
+        _alloc: Global,
+        _depth: u64,
+        _index: u32,
+    ) -> Result<Option<Term>, AllocError> {
         Ok(None)
     }
 
@@ -156,12 +167,20 @@ impl Replace for Arguments<'_> {
             None => Ok(None),
             Some(loose) => match from_the_end(self.terms, loose) {
                 Some(u) => Ok(Some(lift_over(alloc, u, depth)?)),
-                None => bound_variable(alloc, u64::from(index).saturating_sub(self.terms.len() as u64)),
+                None => bound_variable(
+                    alloc,
+                    u64::from(index).saturating_sub(self.terms.len() as u64),
+                ),
             },
         }
     }
 
-    fn for_free(&self, _alloc: Global, _depth: u64, _number: u32) -> Result<Option<Term>, AllocError> {
+    fn for_free(
+        &self,
+        _alloc: Global,
+        _depth: u64,
+        _number: u32,
+    ) -> Result<Option<Term>, AllocError> {
         Ok(None)
     }
 }

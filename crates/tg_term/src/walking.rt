@@ -29,7 +29,12 @@ pub(crate) trait Replace {
 /// The term that the walk gives, or `None` where nothing in it is replaced.
 #[cycle(walk)]
 #[tactic(auto, using(crate::proofs::WalkLists::walked))]
-pub(crate) fn walk_at<R: Replace>(alloc: Global, r: &R, t: &Term, depth: u64) -> Result<Option<Term>, AllocError>
+pub(crate) fn walk_at<R: Replace>(
+    alloc: Global,
+    r: &R,
+    t: &Term,
+    depth: u64,
+) -> Result<Option<Term>, AllocError>
     ensures { IfOk result (λ o. unwrap_or o t.now ≡ walk (R.on_bound r.now) (R.on_free r.now) depth t.now) }
 {
     match t.node() {
@@ -66,7 +71,13 @@ pub(crate) fn walk_at<R: Replace>(alloc: Global, r: &R, t: &Term, depth: u64) ->
 }
 
 #[cycle(walk)]
-fn walk_let<R: Replace>(alloc: Global, r: &R, a: &Term, b: &Term, depth: u64) -> Result<Option<Term>, AllocError>
+fn walk_let<R: Replace>(
+    alloc: Global,
+    r: &R,
+    a: &Term,
+    b: &Term,
+    depth: u64,
+) -> Result<Option<Term>, AllocError>
     ensures { IfOk result (λ o. unwrap_or o (bind a.now b.now) ≡ walk (R.on_bound r.now) (R.on_free r.now) depth (bind a.now b.now)) }
 {
     let bound = walk_at(alloc, r, a, depth)?;
@@ -74,7 +85,13 @@ fn walk_let<R: Replace>(alloc: Global, r: &R, a: &Term, b: &Term, depth: u64) ->
     make_let(alloc, a, bound, b, body)
 }
 
-fn make_let(alloc: Global, a: &Term, bound: Option<Term>, b: &Term, body: Option<Term>) -> Result<Option<Term>, AllocError>
+fn make_let(
+    alloc: Global,
+    a: &Term,
+    bound: Option<Term>,
+    b: &Term,
+    body: Option<Term>,
+) -> Result<Option<Term>, AllocError>
     ensures { IfOk result (λ o. unwrap_or o (bind a.now b.now) ≡ bind (unwrap_or bound a.now) (unwrap_or body b.now)) }
 {
     if bound.is_none() && body.is_none() {
@@ -96,15 +113,26 @@ fn make_case(
 {
     match (scrutinee, branches) {
         (None, None) => Ok(None),
-        (scrutinee, None) => made(alloc, Node::Case(d, or_shared(a, scrutinee)?, shared_branches(alloc, bs)?)),
-        (scrutinee, Some(branches)) => made(alloc, Node::Case(d, or_shared(a, scrutinee)?, branches)),
+        (scrutinee, None) => made(
+            alloc,
+            Node::Case(d, or_shared(a, scrutinee)?, shared_branches(alloc, bs)?),
+        ),
+        (scrutinee, Some(branches)) => made(
+            alloc,
+            Node::Case(d, or_shared(a, scrutinee)?, branches),
+        ),
     }
 }
 
 /// The terms that the walk gives, or `None` where nothing in them is replaced.
 #[cycle(walk)]
 #[tactic(auto, using(crate::proofs::WalkLists::walked))]
-pub(crate) fn walk_list<R: Replace>(alloc: Global, r: &R, ts: &[Term], depth: u64) -> Result<Option<Items<Term>>, AllocError>
+pub(crate) fn walk_list<R: Replace>(
+    alloc: Global,
+    r: &R,
+    ts: &[Term],
+    depth: u64,
+) -> Result<Option<Items<Term>>, AllocError>
     ensures { IfOk result (λ o. trees (unwrap_or o ts.now) ≡ walk_all (R.on_bound r.now) (R.on_free r.now) depth (trees ts.now)) }
 {
     let mut out = Vec::new(alloc);
@@ -124,7 +152,12 @@ pub(crate) fn walk_list<R: Replace>(alloc: Global, r: &R, ts: &[Term], depth: u6
 /// The branches that the walk gives, or `None` where nothing in them is replaced.
 #[cycle(walk)]
 #[tactic(auto, using(crate::proofs::WalkLists::walked))]
-fn walk_branches<R: Replace>(alloc: Global, r: &R, bs: &[Branch], depth: u64) -> Result<Option<Items<Branch>>, AllocError>
+fn walk_branches<R: Replace>(
+    alloc: Global,
+    r: &R,
+    bs: &[Branch],
+    depth: u64,
+) -> Result<Option<Items<Branch>>, AllocError>
     ensures { IfOk result (λ o. arms (unwrap_or o bs.now) ≡ walk_arms (R.on_bound r.now) (R.on_free r.now) depth (arms bs.now)) }
 {
     let mut out = Vec::new(alloc);
