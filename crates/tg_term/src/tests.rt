@@ -86,26 +86,49 @@ fn abstraction_binds_one_variable_and_raises_the_loose_ones(rt: HostRuntime) -> 
     Ok(())
 }
 
+/// For all truth values, the one term.
+fn for_all(alloc: Global, node: Node) -> Result<Formula, AllocError> {
+    Ok(Formula::All(
+        Ty::Bool,
+        Boxed::new(alloc, Formula::Atom(term(alloc, node)?))?,
+    ))
+}
+
+fn one(alloc: Global, node: Node) -> Result<Vec<Term>, AllocError> {
+    let mut terms = Vec::new(alloc);
+    terms.push(term(alloc, node)?)?;
+    Ok(terms)
+}
+
+/// The node of the one term under the quantifier.
+fn quantified(f: &Formula) -> Option<&Node> {
+    match f {
+        Formula::All(_, g) => match g.get() {
+            Formula::Atom(t) => Some(t.node()),
+            _ => None,
+        },
+        _ => None,
+    }
+}
+
 #[test]
 fn a_quantifier_is_a_binder(rt: HostRuntime) -> Result<(), Fail> {
     let alloc = rt.alloc();
-    let body = Formula::Atom(term(alloc, Node::Free(1))?);
-    let f = Formula::All(Ty::Bool, Boxed::new(alloc, body)?);
-    let mut vars = Vec::new(alloc);
-    vars.push(term(alloc, Node::Bound(0))?)?;
+    let f = for_all(alloc, Node::Free(1))?;
+    let vars = one(alloc, Node::Bound(0))?;
     let found = subst_formula(alloc, &f, vars.as_slice())?;
-    assert!(rt;
-        matches!(&found, Formula::All(Ty::Bool, g) if matches!(g.get(), Formula::Atom(t) if matches!(t.node(), Node::Bound(1))))
-    );
+    assert!(rt; matches!(quantified(&found), Some(Node::Bound(1))));
     let bound = abstract_formula(alloc, &f, 1)?;
-    assert!(rt;
-        matches!(&bound, Formula::All(_, g) if matches!(g.get(), Formula::Atom(t) if matches!(t.node(), Node::Bound(1))))
-    );
-    let mut args = Vec::new(alloc);
-    args.push(term(alloc, Node::Lit(9))?)?;
-    let filled = instantiate_formula(alloc, &bound, args.as_slice())?;
-    assert!(rt;
-        matches!(&filled, Formula::All(_, g) if matches!(g.get(), Formula::Atom(t) if matches!(t.node(), Node::Lit(9))))
-    );
+    assert!(rt; matches!(quantified(&bound), Some(Node::Bound(1))));
+    Ok(())
+}
+
+#[test]
+fn an_argument_goes_under_a_quantifier(rt: HostRuntime) -> Result<(), Fail> {
+    let alloc = rt.alloc();
+    let f = for_all(alloc, Node::Bound(1))?;
+    let args = one(alloc, Node::Lit(9))?;
+    let found = instantiate_formula(alloc, &f, args.as_slice())?;
+    assert!(rt; matches!(quantified(&found), Some(Node::Lit(9))));
     Ok(())
 }
