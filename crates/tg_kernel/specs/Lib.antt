@@ -1,0 +1,4 @@
+pub mod Hypotheses
+pub mod Replacement
+pub mod Rows
+pub mod Derivation
