@@ -1,7 +1,7 @@
 -- The value of a typed term reads no loose bound variable beyond those that have a type; and replacing equals by equals keeps
 -- values and truth.
-use Rattle.std.proofs.Common.{ℕ, zero, suc, ◌≡◌, ◌<◌, ◌+◌, Bool, true, false, List, [], ◌∷◌, ◌++◌, reverse, length, Option, Some, None, refl, sym, ◌∙◌, ap, subst, nat_eq, if◌then◌else◌, arith, append_assoc, length-append}
-use Rattle.std.specs.Prelude.{slice_get, unwrap_or}
+use Rattle.std.proofs.Common.{ℕ, zero, suc, ◌≡◌, true, List, [], ◌∷◌, ◌++◌, reverse, length, Option, refl, sym, ◌∙◌, ap, nat_eq, arith, append_assoc, length-append}
+use Rattle.std.specs.Prelude.{unwrap_or}
 use Rattle.std.specs.Option.{option_map_or}
 use Rattle.std.proofs.lemmas.Bool.{eqb-true}
 use Rattle.std.proofs.lemmas.List.{length-reverse}
@@ -10,14 +10,13 @@ use Rattle.tg_model.specs.Tree as tree
 use Rattle.tg_model.specs.Tree.{Tree, Trees, Arms, bound, free, literal, truth, con, call, put, choice, case, bind, op}
 use Rattle.tg_model.specs.Types.{Ty}
 use Rattle.tg_model.specs.Value.{Value, made, values, boolean, wrong, IsShallow}
-use Rattle.tg_model.specs.Formula as formula
 use Rattle.tg_model.specs.Formula.{Formula}
-use Rattle.tg_model.specs.Theory.{Theory, numbered}
+use Rattle.tg_model.specs.Theory.{Theory}
 use Rattle.tg_model.specs.Typing.{HasType}
 use Rattle.tg_model.specs.Table.{Table, IsListed}
 use Rattle.tg_model.specs.Denotation.{World, value_in, values_in, branch_in, opened, operated, chosen, world}
 use Rattle.tg_model.specs.Truth.{Holds}
-use Rattle.tg_model.specs.TermTyping.{Typing, Typings, ArmTypings, leaf, instanced, compound, branching, binding, none, more, end, arm, constructor_arguments, IsTyping, AreTypings, AreArmTypings}
+use Rattle.tg_model.specs.TermTyping.{Typing, Typings, ArmTypings, leaf, instanced, compound, branching, binding, none, more, arm, constructor_arguments, IsTyping, AreTypings, AreArmTypings}
 use Rattle.tg_model.proofs.Places.{get_left}
 use Rattle.tg_model.proofs.Walks.{if_same, by_branch}
 use Rattle.tg_kernel.specs.Replacement as by
@@ -44,7 +43,7 @@ module _ (th : Theory) (vars : List Ty) (w : World) (env extra : List Value) whe
         ap (λ x. value_in w env (x ∷ (loc ++ extra)) body) (own_value t d locs loc n p) ∙ own_value body e (u ∷ locs) (value_in w env loc t ∷ loc) (ap suc n) b
     own_value (case m t bs) (branching us u d arms) locs loc n (is, e, p, each) =
         ap (λ x. after_case bs (loc ++ extra) (opened m (w.first m) x)) (own_value t d locs loc n p)
-          ∙ by_branch _ _ (λ k vs. own_branch bs (constructor_arguments th m us) arms u locs loc n each k vs) (opened m (w.first m) (value_in w env loc t))
+        ∙ by_branch _ _ (λ k vs. own_branch bs (constructor_arguments th m us) arms u locs loc n each k vs) (opened m (w.first m) (value_in w env loc t))
     own_value t d locs loc n h = absurd h
 
     own_values : (ts : Trees) (ds : Typings) (locs : List Ty) (loc : List Value) → length loc ≡ length locs → AreTypings th vars locs ts ds
@@ -58,10 +57,10 @@ module _ (th : Theory) (vars : List Ty) (w : World) (env extra : List Value) whe
     own_branch tree.end args arms u locs loc n h k vs = refl
     own_branch (tree.arm m body bs) (ts ∷ rest) (arm ts' d arms) u locs loc n (count, e, p, q, others) zero vs =
         if_same _ _ wrong (nat_eq m (length vs)) (λ x.
-          let same : length (reverse vs ++ loc) ≡ length (reverse ts ++ locs) =
-              let a = length-append (reverse vs) loc in let b = length-append (reverse ts) locs in
-              let c = length-reverse vs in let f = length-reverse ts in let g = eqb-true m (length vs) x in omega arith in
-          ap (λ l. value_in w env l body) (sym (append_assoc (reverse vs) loc extra)) ∙ own_value body d (reverse ts ++ locs) (reverse vs ++ loc) same p)
+        let same : length (reverse vs ++ loc) ≡ length (reverse ts ++ locs) =
+        let a = length-append (reverse vs) loc in let b = length-append (reverse ts) locs in
+        let c = length-reverse vs in let f = length-reverse ts in let g = eqb-true m (length vs) x in omega arith in
+        ap (λ l. value_in w env l body) (sym (append_assoc (reverse vs) loc extra)) ∙ own_value body d (reverse ts ++ locs) (reverse vs ++ loc) same p)
     own_branch (tree.arm m body bs) (ts ∷ rest) (arm ts' d arms) u locs loc n (count, e, p, q, others) (suc k) vs = own_branch bs rest arms u locs loc n others k vs
     own_branch (tree.arm m body bs) args arms u locs loc n h k vs = absurd h
 
@@ -82,7 +81,7 @@ module _ (w : World) (env : List Value) (s t : Tree) (equal : (loc : List Value)
     replaced_value (by.in_choice r) loc = ap chosen (replaced_values r loc)
     replaced_value (by.in_case d {u} {v} {bs} {cs} r a) loc =
         ap (λ x. option_map_or (λ (p : ℕ × List Value). branch_in w env loc p.0 p.1 bs) (opened d (w.first d) x) wrong) (replaced_value r loc)
-          ∙ by_branch _ _ (λ k vs. replaced_branch a loc k vs) (opened d (w.first d) (value_in w env loc v))
+        ∙ by_branch _ _ (λ k vs. replaced_branch a loc k vs) (opened d (w.first d) (value_in w env loc v))
     replaced_value (by.in_bind {u} {v} {a} {b} r q) loc =
         ap (λ x. value_in w env (x ∷ loc) a) (replaced_value r loc) ∙ replaced_value q (value_in w env loc v ∷ loc)
     replaced_value (by.in_op o r) loc = ap (operated o) (replaced_values r loc)

@@ -1,7 +1,6 @@
 -- Typing depends on the types of the variables that stand in a term, and on no other: so a context may grow, and lose a
 -- variable that isn't used.
-use Rattle.std.proofs.Common.{ℕ, zero, suc, ◌≡◌, ◌+◌, Bool, true, false, ◌||◌, List, [], ◌∷◌, ◌++◌, reverse, length, Option, Some, None, refl, sym, ◌∙◌, ap, subst, nat_eq, ◌⊎◌, inl, inr}
-use Rattle.std.specs.Prelude.{slice_get}
+use Rattle.std.proofs.Common.{ℕ, ◌≡◌, Bool, true, false, ◌||◌, List, [], ◌∷◌, ◌++◌, reverse, Some, refl, sym, ◌∙◌, ap, ◌⊎◌, inl, inr}
 use Rattle.std.proofs.lemmas.Bool.{eq-eqb, eqb-true}
 use Rattle.tg_model.specs.Tree as tree
 use Rattle.tg_model.specs.Tree.{Tree, Trees, Arms, bound, free, literal, truth, con, call, put, choice, case, bind, op}
@@ -38,12 +37,18 @@ module _ (th : Theory) (vars vars' : List Ty) where
     retyped (put ts) (compound t ds) locs a (q, args, each) = (q, args, all_retyped ts ds locs a each)
     retyped (choice ts) (compound t ds) locs a (args, each) = (args, all_retyped ts ds locs a each)
     retyped (op o ts) (compound t ds) locs a (is, each) = (is, all_retyped ts ds locs a each)
-    retyped (bind t body) (binding u v d e) locs a (p, q, b, s) =
-        (retyped t d locs (λ m x. a m (or_left (uses m t) (uses m body) x)) p, q,
-          retyped body e (u ∷ locs) (λ m x. a m (or_right (uses m t) (uses m body) x)) b, s)
-    retyped (case m t bs) (branching us u d arms) locs a (is, e, p, each) =
-        (is, e, retyped t d locs (λ m x. a m (or_left (uses m t) (use_branch m bs) x)) p,
-          arms_retyped bs (constructor_arguments th m us) arms u locs (λ m x. a m (or_right (uses m t) (use_branch m bs) x)) each)
+    retyped (bind t body) (binding u v d e) locs a (p, q, b, s) = (
+      retyped t d locs (λ m x. a m (or_left (uses m t) (uses m body) x)) p,
+      q,
+      retyped body e (u ∷ locs) (λ m x. a m (or_right (uses m t) (uses m body) x)) b,
+      s,
+    )
+    retyped (case m t bs) (branching us u d arms) locs a (is, e, p, each) = (
+      is,
+      e,
+      retyped t d locs (λ m x. a m (or_left (uses m t) (use_branch m bs) x)) p,
+      arms_retyped bs (constructor_arguments th m us) arms u locs (λ m x. a m (or_right (uses m t) (use_branch m bs) x)) each,
+    )
     retyped t d locs a h = absurd h
 
     all_retyped : (ts : Trees) (ds : Typings) (locs : List Ty) → Agree (λ m. use_any m ts) → AreTypings th vars locs ts ds → AreTypings th vars' locs ts ds
@@ -56,9 +61,13 @@ module _ (th : Theory) (vars vars' : List Ty) where
     arms_retyped : (bs : Arms) (args : List (List Ty)) (arms : ArmTypings) (u : Ty) (locs : List Ty) → Agree (λ m. use_branch m bs)
         → AreArmTypings th vars locs u bs args arms → AreArmTypings th vars' locs u bs args arms
     arms_retyped tree.end [] end u locs a h = tt
-    arms_retyped (tree.arm n body bs) (ts ∷ rest) (arm ts' d arms) u locs a (count, e, p, q, others) =
-        (count, e, retyped body d (reverse ts ++ locs) (λ m x. a m (or_left (uses m body) (use_branch m bs) x)) p, q,
-          arms_retyped bs rest arms u locs (λ m x. a m (or_right (uses m body) (use_branch m bs) x)) others)
+    arms_retyped (tree.arm n body bs) (ts ∷ rest) (arm ts' d arms) u locs a (count, e, p, q, others) = (
+      count,
+      e,
+      retyped body d (reverse ts ++ locs) (λ m x. a m (or_left (uses m body) (use_branch m bs) x)) p,
+      q,
+      arms_retyped bs rest arms u locs (λ m x. a m (or_right (uses m body) (use_branch m bs) x)) others,
+    )
     arms_retyped bs args arms u locs a h = absurd h
 
   pub is_retyped : (t : Tree) (u : Ty) (locs : List Ty) → Agree (λ m. uses m t) → IsTyped th vars locs t u → IsTyped th vars' locs t u
@@ -73,12 +82,14 @@ module _ (th : Theory) (vars vars' : List Ty) where
 
   pub well_formed_again : (f : Formula) (locs : List Ty) → Agree (λ m. uses_in_formula m f) → IsWellFormed th vars locs f → IsWellFormed th vars' locs f
   well_formed_again (atom t) locs a h = is_retyped t bool locs a h
-  well_formed_again (both f g) locs a h =
-      (well_formed_again f locs (λ m x. a m (or_left (uses_in_formula m f) (uses_in_formula m g) x)) h.0,
-        well_formed_again g locs (λ m x. a m (or_right (uses_in_formula m f) (uses_in_formula m g) x)) h.1)
-  well_formed_again (implies f g) locs a h =
-      (well_formed_again f locs (λ m x. a m (or_left (uses_in_formula m f) (uses_in_formula m g) x)) h.0,
-        well_formed_again g locs (λ m x. a m (or_right (uses_in_formula m f) (uses_in_formula m g) x)) h.1)
+  well_formed_again (both f g) locs a h = (
+    well_formed_again f locs (λ m x. a m (or_left (uses_in_formula m f) (uses_in_formula m g) x)) h.0,
+    well_formed_again g locs (λ m x. a m (or_right (uses_in_formula m f) (uses_in_formula m g) x)) h.1,
+  )
+  well_formed_again (implies f g) locs a h = (
+    well_formed_again f locs (λ m x. a m (or_left (uses_in_formula m f) (uses_in_formula m g) x)) h.0,
+    well_formed_again g locs (λ m x. a m (or_right (uses_in_formula m f) (uses_in_formula m g) x)) h.1,
+  )
   well_formed_again (all t f) locs a h = (h.0, well_formed_again f (t ∷ locs) a h.1)
   well_formed_again (some t f) locs a h = (h.0, well_formed_again f (t ∷ locs) a h.1)
   well_formed_again (thyp f) locs a h = well_formed_again f locs a h

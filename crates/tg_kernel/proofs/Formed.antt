@@ -1,24 +1,20 @@
 -- What is derivable is well formed: its context is closed, its hypotheses and its goal are formulas of it.
-use Rattle.std.proofs.Common.{ℕ, zero, suc, ◌≡◌, ◌≢◌, ◌<◌, ◌≤◌, ◌+◌, Bool, true, false, List, [], ◌∷◌, ◌++◌, length, Option, Some, None, refl, sym, ◌∙◌, ap, subst, ◌⊎◌, inl, inr, arith}
+use Rattle.std.proofs.Common.{ℕ, zero, suc, ◌≡◌, ◌≢◌, ◌+◌, true, false, List, [], ◌∷◌, ◌++◌, length, Some, refl, sym, ◌∙◌, ap, subst, ◌⊎◌, inl, inr, arith}
 use Rattle.std.specs.Prelude.{slice_get}
 use Rattle.std.proofs.lemmas.Option.{slice_get_within}
 use Rattle.tg_model.specs.Tree as tree
 use Rattle.tg_model.specs.Tree.{Tree, op, one, two, truth, equality, negation}
 use Rattle.tg_model.specs.Types.{Ty, bool, tys}
-use Rattle.tg_model.specs.Formula.{Formula, atom, both, implies, all, some, thyp}
-use Rattle.tg_model.specs.Theory.{Theory, numbered, IsClosed, AreClosed}
+use Rattle.tg_model.specs.Formula.{Formula}
+use Rattle.tg_model.specs.Theory.{Theory, numbered, AreClosed}
 use Rattle.tg_model.specs.Uses.{uses_in_formula}
-use Rattle.tg_model.specs.TermTyping.{Typing, leaf, compound, none, more, type_of, IsOperation, IsTyping, IsTyped, IsWellFormed}
+use Rattle.tg_model.specs.TermTyping.{Typing, leaf, compound, none, more, type_of, IsOperation, IsTyping, IsWellFormed}
 use Rattle.tg_model.proofs.Places.{get_left}
 use Rattle.tg_model.proofs.Keeping.{instantiation_keeps_form, abstraction_keeps_form}
-use Rattle.tg_kernel.specs.Hypotheses.{IsIn, AreSame, AreWithout, NoneUses}
+use Rattle.tg_kernel.specs.Hypotheses.{IsIn, AreSame, NoneUses}
 use Rattle.tg_kernel.specs.Derivation.{Derives, equation, hyp, grow, and_i, and_l, and_r, imp_i, mp, all_i, all_e, ex_i, thyp_e, truth_i, split, sym as symmetry, replace, schema, compute}
+use Rattle.tg_kernel.specs.Laws.{Formed, IsAboutFormed}
 use Rattle.tg_kernel.proofs.Contexts.{well_formed_again, used_in_formula}
-
-pub record Formed (th : Theory) (vars : List Ty) (hs : List Formula) (f : Formula) : Type 0 where
-  pub closed : AreClosed th (tys vars)
-  pub hypotheses : (h : Formula) → IsIn h hs → IsWellFormed th vars [] h
-  pub goal : IsWellFormed th vars [] f
 
 pub in_append : (h : Formula) (xs ys : List Formula) → IsIn h (xs ++ ys) → IsIn h xs ⊎ IsIn h ys
 in_append h [] ys i = inr i
@@ -76,7 +72,7 @@ strengthened : (th : Theory) (vars : List Ty) (t : Ty) (f : Formula) → uses_in
     → IsWellFormed th vars [] f
 strengthened th vars t f unused h =
     well_formed_again th (vars ++ t ∷ []) vars f []
-      (λ m u. sym (elsewhere vars t m (λ e. let g : true ≡ false = sym u ∙ (ap (λ k. uses_in_formula k f) e ∙ unused) in cc))) h
+    (λ m u. sym (elsewhere vars t m (λ e. let g : true ≡ false = sym u ∙ (ap (λ k. uses_in_formula k f) e ∙ unused) in cc))) h
 
 pub unused_in : (n : ℕ) (hs : List Formula) (h : Formula) → NoneUses n hs → IsIn h hs → uses_in_formula n h ≡ false
 unused_in n [] h u i = absurd i
@@ -109,6 +105,7 @@ swapped th vars s t (d, h, e) =
     first_of : List Ty → Ty
     first_of [] = bool
     first_of (x ∷ xs) = x
+
     second_of : List Ty → Ty
     second_of [] = bool
     second_of (x ∷ []) = bool
@@ -148,9 +145,11 @@ formed {th} {vars} {hs} (all_i {t = t} {f = f} {g = g} d unused e) =
     record {
       closed = closed_first th vars (t ∷ []) p.closed;
       hypotheses = λ h i. strengthened th vars t h (unused_in (length vars + 1) hs h unused i) (p.hypotheses h i);
-      goal = ((closed_second th vars (t ∷ []) p.closed).0,
+      goal = (
+        (closed_second th vars (t ∷ []) p.closed).0,
         subst (λ (x : Formula). IsWellFormed th vars (t ∷ []) x) (sym e)
-          (abstraction_keeps_form th (vars ++ t ∷ []) vars [] (length vars + 1) t f (at_end vars t) (λ m h. elsewhere vars t m h) p.goal));
+            (abstraction_keeps_form th (vars ++ t ∷ []) vars [] (length vars + 1) t f (at_end vars t) (λ m h. elsewhere vars t m h) p.goal),
+      );
     }
 formed {th} {vars} (all_e {t = t} {f = f} u d typed e) =
     let p = formed d in
@@ -178,3 +177,6 @@ formed {th} {vars} {hs} (replace {h1 = h1} {h2 = h2} d e r wf same) =
     record { closed = p.closed; hypotheses = either_formed th vars hs h1 h2 same p.hypotheses q.hypotheses; goal = wf }
 formed (schema closed row wf) = record { closed = closed; hypotheses = λ h i. absurd i; goal = wf }
 formed (compute closed c wf) = record { closed = closed; hypotheses = λ h i. absurd i; goal = wf }
+
+pub is_about_formed : IsAboutFormed
+is_about_formed th vars hs f d = formed d

@@ -1,3 +1,4 @@
 pub mod Closed
 pub mod Contexts
 pub mod Formed
+pub mod TrueOnTables

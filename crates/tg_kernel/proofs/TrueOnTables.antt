@@ -1,0 +1,224 @@
+-- What is derivable is true on every table, rule by rule.
+use Rattle.std.proofs.Common.{ℕ, zero, suc, ◌≡◌, ◌+◌, Bool, true, false, not, ◌||◌, List, [], ◌∷◌, ◌++◌, length, Some, refl, sym, ◌∙◌, ap, subst, inl, inr, arith, ◌↔◌}
+use Rattle.std.proofs.lemmas.Bool.{lt-ltb, le-leb}
+use Rattle.std.proofs.lemmas.Option.{slice_get_within}
+use Rattle.tg_model.specs.Tree.{Tree, op, one, truth, equality, negation, implication}
+use Rattle.tg_model.specs.Types.{Ty, bool, tys}
+use Rattle.tg_model.specs.Value.{Value, boolean, same_value, same_truth}
+use Rattle.tg_model.specs.Formula.{Formula, atom}
+use Rattle.tg_model.specs.Theory.{Theory, numbered, AreClosed}
+use Rattle.tg_model.specs.Typing.{AreTyped}
+use Rattle.tg_model.specs.Table.{Table, IsTable}
+use Rattle.tg_model.specs.Denotation.{den, world, on_truths, on_truth}
+use Rattle.tg_model.specs.Truth.{Holds, AllHold}
+use Rattle.tg_model.specs.Uses.{uses_in_formula}
+use Rattle.tg_model.specs.TermTyping.{Typing, leaf, type_of, IsTyping, IsTyped, IsWellFormed}
+use Rattle.tg_model.specs.WellTyped.{IsWellTyped}
+use Rattle.tg_model.proofs.Places.{get_left}
+use Rattle.tg_model.proofs.SameValue.{decides_equality}
+use Rattle.tg_model.proofs.ValueTyping.{typed_append, typed_length, is_boolean}
+use Rattle.tg_model.proofs.CallSoundness.{soundness}
+use Rattle.tg_model.proofs.Keeping.{instantiation_keeps_truth, abstraction_keeps_truth, truth_depends_on_used}
+use Rattle.tg_kernel.specs.Hypotheses.{IsIn, AreSame, AreWithout}
+use Rattle.tg_kernel.specs.Rows.{Row, imp_true_l, imp_false_l, eq_true_r, eq_true_l, eq_false_r, eq_false_l}
+use Rattle.tg_kernel.specs.Derivation.{Derives, Computes, less_literals, less_equal_literals, hyp, grow, and_i, and_l, and_r, imp_i, mp, all_i, all_e, ex_i, thyp_e, truth_i, split, sym as symmetry, replace, schema, compute}
+use Rattle.tg_kernel.specs.Laws.{IsSound}
+use Rattle.tg_kernel.proofs.Contexts.{used_in_formula}
+use Rattle.tg_kernel.proofs.Closed.{closed_value, replaced_truth}
+use Rattle.tg_kernel.proofs.Formed.{formed, in_left, in_right, at_end, elsewhere, unused_in, operands}
+
+-- a context's values that are those of a shorter context, and more
+first_values : (th : Theory) (env : List Value) (ts us : List Ty) → AreTyped th env (ts ++ us)
+    → (e : List Value) × ((k : List Value) × (env ≡ e ++ k) × AreTyped th e ts)
+first_values th env [] us h = ([], (env, refl, tt))
+first_values th [] (t ∷ ts) us h = absurd h
+first_values th (v ∷ env) (t ∷ ts) us h =
+    let p = first_values th env ts us h.1 in (v ∷ p.0, (p.1.0, ap (λ rest. v ∷ rest) p.1.1, (h.0, p.1.2)))
+
+typed_place_of : (env : List Value) (ts : List Ty) (m : ℕ) (u : Ty) (k : List Value) → length env ≡ length ts → numbered ts m ≡ Some u → numbered env m ≡ numbered (env ++ k) m
+typed_place_of env ts zero u k n e = cc
+typed_place_of env ts (suc i) u k n e = sym (get_left env k i (omega (arith, slice_get_within ts i u e, n)))
+
+boolean_one : (a b : Bool) → boolean a ≡ boolean b → a ≡ b
+boolean_one a b e = cc
+
+equal_values : (v w : Value) → boolean (same_value v w) ≡ boolean true → v ≡ w
+equal_values v w e = (decides_equality v w).0 (boolean_one (same_value v w) true e)
+
+values_equal : (v w : Value) → v ≡ w → boolean (same_value v w) ≡ boolean true
+values_equal v w e = ap boolean ((decides_equality v w).1 e)
+
+module _ (th : Theory) (wt : IsWellTyped th) (tb : Table) (table : IsTable th tb) where
+  abbrev meant : List Value → Formula → Type 0
+  meant env f = Holds th tb env [] f
+
+  -- a term that is typed as a truth value has one
+  truth_of : (vars : List Ty) (env : List Value) (t : Tree) → AreClosed th (tys vars) → AreTyped th env vars → IsTyped th vars [] t bool
+      → (b : Bool) × (den th tb env [] t ≡ boolean b)
+  truth_of vars env t closed typed h = is_boolean th (den th tb env [] t) (soundness th tb wt table vars [] env [] t bool closed tt tt typed tt h)
+
+  operand_truth : (vars : List Ty) (env : List Value) (t : Tree) (d : Typing) → AreClosed th (tys vars) → AreTyped th env vars → IsTyping th vars [] t d → type_of d ≡ bool
+      → (b : Bool) × (den th tb env [] t ≡ boolean b)
+  operand_truth vars env t d closed typed h e = truth_of vars env t closed typed (d, h, e)
+
+  -- each schema keeps the value
+  implied : (v : Value) (b : Bool) → v ≡ boolean b → on_truths (λ a b. not a || b) (boolean true ∷ v ∷ []) ≡ v
+  implied v b e = subst (λ (x : Value). on_truths (λ a b. not a || b) (boolean true ∷ x ∷ []) ≡ x) (sym e) refl
+
+  idle : (v : Value) (b : Bool) → v ≡ boolean b → on_truths (λ a b. not a || b) (boolean false ∷ v ∷ []) ≡ boolean true
+  idle v b e = subst (λ (x : Value). on_truths (λ a b. not a || b) (boolean false ∷ x ∷ []) ≡ boolean true) (sym e) refl
+
+  with_true : (b : Bool) → same_truth b true ≡ b
+  with_true true = refl
+  with_true false = refl
+
+  with_false : (b : Bool) → same_truth b false ≡ not b
+  with_false true = refl
+  with_false false = refl
+
+  is_true_r : (v : Value) (b : Bool) → v ≡ boolean b → boolean (same_value v (boolean true)) ≡ v
+  is_true_r v b e = subst (λ (x : Value). boolean (same_value x (boolean true)) ≡ x) (sym e) (ap boolean (with_true b))
+
+  is_true_l : (v : Value) (b : Bool) → v ≡ boolean b → boolean (same_value (boolean true) v) ≡ v
+  is_true_l v b e = subst (λ (x : Value). boolean (same_value (boolean true) x) ≡ x) (sym e) refl
+
+  is_false_r : (v : Value) (b : Bool) → v ≡ boolean b → boolean (same_value v (boolean false)) ≡ on_truth not (v ∷ [])
+  is_false_r v b e = subst (λ (x : Value). boolean (same_value x (boolean false)) ≡ on_truth not (x ∷ [])) (sym e) (ap boolean (with_false b))
+
+  is_false_l : (v : Value) (b : Bool) → v ≡ boolean b → boolean (same_value (boolean false) v) ≡ on_truth not (v ∷ [])
+  is_false_l v b e = subst (λ (x : Value). boolean (same_value (boolean false) x) ≡ on_truth not (x ∷ [])) (sym e) refl
+
+  abbrev first_type : List Ty → Ty
+  first_type [] = bool
+  first_type (t ∷ ts) = t
+
+  abbrev second_type : List Ty → Ty
+  second_type [] = bool
+  second_type (t ∷ []) = bool
+  second_type (t ∷ u ∷ ts) = u
+
+  bool_leaf : (vars : List Ty) (x : Bool) (d : Typing) → IsTyping th vars [] (truth x) d → type_of d ≡ bool
+  bool_leaf vars x (leaf t) h = h
+  bool_leaf vars x d h = absurd h
+
+  row_value : (vars : List Ty) (env : List Value) (s t : Tree) → AreClosed th (tys vars) → AreTyped th env vars → Row s t → (d : Typing) → IsTyping th vars [] s d
+      → den th tb env [] s ≡ den th tb env [] t
+  row_value vars env s t closed typed (imp_true_l a) d h =
+      let p = operands th vars implication (truth true) a d h in
+      let b = operand_truth vars env a p.right closed typed p.right_is (ap second_type p.is.0) in implied _ b.0 b.1
+  row_value vars env s t closed typed (imp_false_l a) d h =
+      let p = operands th vars implication (truth false) a d h in
+      let b = operand_truth vars env a p.right closed typed p.right_is (ap second_type p.is.0) in idle _ b.0 b.1
+  row_value vars env s t closed typed (eq_true_r a) d h =
+      let p = operands th vars equality a (truth true) d h in
+      let e : type_of p.left ≡ bool = ap first_type p.is.0.1 ∙ (sym (ap second_type p.is.0.1) ∙ bool_leaf vars true p.right p.right_is) in
+      let b = operand_truth vars env a p.left closed typed p.left_is e in is_true_r _ b.0 b.1
+  row_value vars env s t closed typed (eq_true_l a) d h =
+      let p = operands th vars equality (truth true) a d h in
+      let e : type_of p.right ≡ bool = ap second_type p.is.0.1 ∙ (sym (ap first_type p.is.0.1) ∙ bool_leaf vars true p.left p.left_is) in
+      let b = operand_truth vars env a p.right closed typed p.right_is e in is_true_l _ b.0 b.1
+  row_value vars env s t closed typed (eq_false_r a) d h =
+      let p = operands th vars equality a (truth false) d h in
+      let e : type_of p.left ≡ bool = ap first_type p.is.0.1 ∙ (sym (ap second_type p.is.0.1) ∙ bool_leaf vars false p.right p.right_is) in
+      let b = operand_truth vars env a p.left closed typed p.left_is e in is_false_r _ b.0 b.1
+  row_value vars env s t closed typed (eq_false_l a) d h =
+      let p = operands th vars equality (truth false) a d h in
+      let e : type_of p.right ≡ bool = ap second_type p.is.0.1 ∙ (sym (ap first_type p.is.0.1) ∙ bool_leaf vars false p.left p.left_is) in
+      let b = operand_truth vars env a p.right closed typed p.right_is e in is_false_l _ b.0 b.1
+
+  computed : (env : List Value) (t : Tree) → Computes t → den th tb env [] t ≡ boolean true
+  computed env t (less_literals m n h) = ap boolean (lt-ltb m n h)
+  computed env t (less_equal_literals m n h) = ap boolean (le-leb m n h)
+
+  -- truth in a longer context, of a formula of the shorter one
+  grown_truth : (vars : List Ty) (env k : List Value) (f : Formula) → AreTyped th env vars → IsWellFormed th vars [] f → meant env f ↔ meant (env ++ k) f
+  grown_truth vars env k f typed wf =
+      truth_depends_on_used th tb env (env ++ k) [] f
+      (λ m u. let p = used_in_formula th vars m f [] u wf in typed_place_of env vars m p.0 k (typed_length th env vars typed) p.1)
+
+  -- truth where one more value is given, of a formula that doesn't have the variable
+  unused_truth : (env : List Value) (v : Value) (n : ℕ) (f : Formula) → n ≡ length env + 1 → uses_in_formula n f ≡ false → meant env f ↔ meant (env ++ v ∷ []) f
+  unused_truth env v n f e unused =
+      truth_depends_on_used th tb env (env ++ v ∷ []) [] f
+      (λ m u. elsewhere env v m (λ q. let g : true ≡ false = sym u ∙ (ap (λ k. uses_in_formula k f) (q ∙ sym e) ∙ unused) in cc))
+
+  sides : (hs h1 h2 : List Formula) (env : List Value) → AreSame hs (h1 ++ h2) → ((h : Formula) → IsIn h hs → meant env h)
+      → ((h : Formula) → IsIn h h1 → meant env h) × ((h : Formula) → IsIn h h2 → meant env h)
+  sides hs h1 h2 env same given = (λ h i. given h (same.back h (in_left h h1 h2 i)), λ h i. given h (same.back h (in_right h h1 h2 i)))
+
+  with_one : (h1 k1 : List Formula) (f : Formula) (env : List Value) → AreWithout h1 f k1 → meant env f → ((h : Formula) → IsIn h k1 → meant env h)
+      → (h : Formula) → IsIn h h1 → meant env h
+  with_one h1 k1 f env w here given h i = elim (w.into h i) [ inl e ↦ subst (λ (x : Formula). meant env x) (sym e) here | inr j ↦ given h j ]
+
+  denied : (v : Value) → v ≡ boolean false → on_truth not (v ∷ []) ≡ boolean true
+  denied v e = subst (λ (x : Value). on_truth not (x ∷ []) ≡ boolean true) (sym e) refl
+
+  by_truth : (P : Type 0) (b : Bool) → (b ≡ true → P) → (b ≡ false → P) → P
+  by_truth P true h g = h refl
+  by_truth P false h g = g refl
+
+  pub sound : {vars : List Ty} {hs : List Formula} {f : Formula} → Derives th vars hs f → (env : List Value) → AreTyped th env vars
+      → ((h : Formula) → IsIn h hs → meant env h) → meant env f
+  sound {f = f} (hyp closed wf same) env typed given = given f (same.back f (inl refl))
+  sound {hs = hs} {f = f} (grow {vars = vars} ts d closed e) env typed given =
+      let p = formed d in
+      let q = first_values th env vars ts (subst (λ (xs : List Ty). AreTyped th env xs) e typed) in
+      let here : meant q.0 f = sound d q.0 q.1.2
+      (λ h i. (grown_truth vars q.0 q.1.0 h q.1.2 (p.hypotheses h i)).1 (subst (λ (x : List Value). meant x h) q.1.1 (given h i))) in
+      subst (λ (x : List Value). meant x f) (sym q.1.1) ((grown_truth vars q.0 q.1.0 f q.1.2 p.goal).0 here)
+  sound {hs = hs} (and_i {h1 = h1} {h2 = h2} d e same) env typed given =
+      let p = sides hs h1 h2 env same given in (sound d env typed p.0, sound e env typed p.1)
+  sound (and_l d) env typed given = (sound d env typed given).0
+  sound (and_r d) env typed given = (sound d env typed given).1
+  sound {hs = hs} (imp_i {h1 = h1} {f = f} d wf without) env typed given = λ here. sound d env typed (with_one h1 hs f env without here given)
+  sound {hs = hs} (mp {h1 = h1} {h2 = h2} d e same) env typed given =
+      let p = sides hs h1 h2 env same given in sound d env typed p.0 (sound e env typed p.1)
+  sound {vars = vars} {hs = hs} (all_i {t = t} {f = f} {g = g} d unused e) env typed given =
+      λ v v_typed.
+      let n : length vars + 1 ≡ length env + 1 = ap (λ k. k + 1) (sym (typed_length th env vars typed)) in
+      let more_typed = typed_append th env (v ∷ []) vars (t ∷ []) typed (v_typed, tt) in
+      let body = sound d (env ++ v ∷ []) more_typed
+      (λ h i. (unused_truth env v (length vars + 1) h n (unused_in (length vars + 1) hs h unused i)).0 (given h i)) in
+      let law = abstraction_keeps_truth th tb (env ++ v ∷ []) env [] (length vars + 1) v f (ap (numbered (env ++ v ∷ [])) n ∙ at_end env v)
+      (λ m h. elsewhere env v m (λ q. h (q ∙ sym n))) in
+      subst (λ (x : Formula). Holds th tb env (v ∷ []) x) (sym e) (law.1 body)
+  sound {vars = vars} (all_e {t = t} {f = f} u d u_typed e) env typed given =
+      let p = formed d in
+      let v_typed = soundness th tb wt table vars [] env [] u t p.closed tt p.goal.0 typed tt u_typed in
+      let body = sound d env typed given (den th tb env [] u) v_typed in
+      subst (λ (x : Formula). meant env x) (sym e) ((instantiation_keeps_truth th tb env [] (u ∷ []) f).1 body)
+  sound {vars = vars} (ex_i {t = t} {f = f} {g = g} u d e u_typed wf) env typed given =
+      let p = formed d in
+      let v_typed = soundness th tb wt table vars [] env [] u t p.closed tt wf.0 typed tt u_typed in
+      (den th tb env [] u, v_typed, (instantiation_keeps_truth th tb env [] (u ∷ []) f).0 (subst (λ (x : Formula). meant env x) e (sound d env typed given)))
+  sound (thyp_e d) env typed given = sound d env typed given
+  sound (truth_i closed) env typed given = refl
+  sound {vars = vars} {hs = hs} {f = f} (split {h1 = h1} {h2 = h2} {k1 = k1} {k2 = k2} t d e t_typed w1 w2 same) env typed given =
+      let p = sides hs k1 k2 env same given in
+      let b = truth_of vars env t (formed d).closed typed t_typed in
+      by_truth (meant env f) b.0
+      (λ x. sound d env typed (with_one h1 k1 (atom t) env w1 (b.1 ∙ ap boolean x) p.0))
+      (λ x. sound e env typed (with_one h2 k2 (atom (op negation (one t))) env w2 (denied _ (b.1 ∙ ap boolean x)) p.1))
+  sound (symmetry {s = s} {t = t} d) env typed given =
+      let e = equal_values (den th tb env [] s) (den th tb env [] t) (sound d env typed given) in values_equal (den th tb env [] t) (den th tb env [] s) (sym e)
+  sound {vars = vars} {hs = hs} (replace {h1 = h1} {h2 = h2} {s = s} {t = t} d e r wf same) env typed given =
+      let p = sides hs h1 h2 env same given in
+      let wf_d = (formed d).goal in
+      let o = operands th vars equality s t wf_d.0 wf_d.1 in
+      let w = world th tb in
+      let here = equal_values (den th tb env [] s) (den th tb env [] t) (sound d env typed p.0) in
+      let equal = λ (loc : List Value). closed_value th vars w env loc s o.left o.left_is ∙ (here ∙ sym (closed_value th vars w env loc t o.right o.right_is)) in
+      subst (λ (X : Type 0). X) (replaced_truth th tb env s t equal r []) (sound e env typed p.1)
+  sound {vars = vars} (schema {s = s} {t = t} closed row wf) env typed given =
+      let o = operands th vars equality s t wf.0 wf.1 in
+      values_equal (den th tb env [] s) (den th tb env [] t) (row_value vars env s t closed typed row o.left o.left_is)
+  sound (compute {t = t} closed c wf) env typed given = computed env t c
+
+  -- hypotheses of a sequent, one after another
+  listed_hypotheses : (env : List Value) (hs : List Formula) → AllHold th tb env hs → (h : Formula) → IsIn h hs → meant env h
+  listed_hypotheses env [] a h i = absurd i
+  listed_hypotheses env (k ∷ hs) a h (inl e) = subst (λ (x : Formula). meant env x) (sym e) a.0
+  listed_hypotheses env (k ∷ hs) a h (inr i) = listed_hypotheses env hs a.1 h i
+
+pub is_sound : IsSound
+is_sound th wt vars hs f d tb table env typed given = sound th wt tb table d env typed (listed_hypotheses th wt tb table env hs given)

@@ -1,0 +1,9 @@
+use Rattle.tg_kernel.proofs.Formed.{is_about_formed}
+use Rattle.tg_kernel.proofs.TrueOnTables.{is_sound}
+use Rattle.tg_kernel.proofs.soundness.Goals as goal
+
+pub returns-clause-form : goal.returns-clause-form
+returns-clause-form c = is_about_formed
+
+pub returns-clause-truth : goal.returns-clause-truth
+returns-clause-truth c = is_sound
