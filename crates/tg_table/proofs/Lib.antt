@@ -1,0 +1,5 @@
+mod NodeLaws
+mod JoinLaws
+mod UniteLaws
+mod PartLaws
+mod MarkLaws

@@ -1,0 +1,4 @@
+pub mod Nodes
+pub mod Pairs
+pub mod View
+pub mod Marks

@@ -1,0 +1,15 @@
+//! Types that share their parts: the nodes of a table, united by union-find. A table means the
+//! assignments of types to its nodes that fit it, so a type that is large as a tree takes no more than
+//! its nodes.
+#![tactic(auto)]
+
+mod finding;
+mod joining;
+mod nodes;
+mod settling;
+mod tables;
+mod uniting;
+
+pub use nodes::Node;
+pub use settling::Solutions;
+pub use tables::Table;
