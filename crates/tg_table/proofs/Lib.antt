@@ -2,4 +2,6 @@ mod NodeLaws
 mod JoinLaws
 mod UniteLaws
 mod PartLaws
+mod Sizes
 mod MarkLaws
+mod GrowthLaws

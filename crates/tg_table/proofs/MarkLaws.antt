@@ -10,6 +10,7 @@ use Rattle.tg_table.specs.declared.nodes.Node.{Node}
 use Rattle.tg_table.specs.declared.nodes.Node.TheVariants.{Open, Link, Nat, Bool, Param, App}
 use Rattle.tg_table.specs.Nodes.{types_of, Says, node_at, Fits, AreBelow, Names, IsTable}
 use Rattle.tg_table.specs.Marks.{HasNone, HasOne, HasSeveral, is_marked, all_marked, is_ready, Built, AgreeAtOpen, AreMarks, IsStuck, unmarked}
+use Rattle.tg_table.proofs.Sizes.{size, sizes}
 use Rattle.tg_table.proofs.PartLaws.{EachPart, ready_parts, says_same, value, says_value, says_alike}
 
 -- a place with a mark is one of the list
@@ -146,19 +147,6 @@ marks_none ns ys e =
       built = λ c. record { types = c; says = λ i h f. absurd (let g = off i in cc); free = λ i h f o. refl };
       alike = λ ρ φ f g o i h k. absurd (let q = off i in cc);
     }
-
--- how many nodes a type has
-abbrev mutual
-  size : model.Ty → ℕ
-  size model.nat = 1
-  size model.bool = 1
-  size (model.parameter n) = 1
-  size (model.meta n) = 1
-  size (model.applied d ts) = suc (sizes ts)
-
-  sizes : model.Tys → ℕ
-  sizes model.none = 0
-  sizes (model.more t ts) = size t + sizes ts
 
 unmarked_part : (ns : List Node) (ys : List Truth) (ρ : Assignment) (ks : List ℕ) → AreBelow (length ns) ks → all_marked ys ks ≡ false →
     (k : ℕ) × (k < length ns) × (is_marked ys k ≡ false) × (size (ρ k) ≤ sizes (types_of ρ ks))

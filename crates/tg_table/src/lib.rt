@@ -6,6 +6,7 @@
 mod finding;
 mod joining;
 mod nodes;
+mod planting;
 mod settling;
 mod tables;
 mod uniting;

@@ -1,15 +1,19 @@
 //! The table of nodes that callers hold.
 ghost use Rattle.std.specs.Prelude.{◌≡◌, ◌<◌, ◌++◌, [], ◌∷◌, length, IfOk, OnErr};
-ghost use Rattle.tg_table.specs.Nodes.{node_at, Names, IsRoot, SameFits, HasTypeOf};
+ghost use Rattle.tg_types.specs.Types.{ty};
+ghost use Rattle.tg_table.specs.Growth.{IsDeclared, Plants};
+ghost use Rattle.tg_table.specs.Nodes.{node_at, AreBelow, Names, IsRoot, SameFits, HasTypeOf};
 ghost use Rattle.tg_table.specs.Pairs.{Unites};
 ghost use Rattle.tg_table.specs.Marks.{Settles};
 
 use super::finding::find;
 use super::nodes::Node;
+use super::planting::{plant, push};
 use super::settling::{Solutions, settle};
 use super::uniting::unite;
 use std::alloc::{AllocError, Global};
 use std::marker::Model;
+use tg_types::Ty;
 
 /// Nodes whose types are to be found. A contract sees a table as the list of its nodes; what it means is
 /// the assignments of types to the nodes that fit it. Each node names nodes of the table, and a link
@@ -52,16 +56,24 @@ impl Table {
     }
 
     /// Adds a node, and gives its place.
-    #[tactic(auto, using(crate::proofs::NodeLaws::table_pushed))]
     pub fn push(&mut self, node: Node) -> Result<usize, AllocError>
         requires { Names (length self.old) (length self.old) node }
         ensures place { IfOk result (λ at. at ≡ length self.old) }
         ensures ok { IfOk result (λ at. self.new ≡ self.old ++ node ∷ []) }
         ensures err { OnErr result (self.new ≡ self.old) }
     {
-        let at = self.nodes.len();
-        self.nodes.push(node)?;
-        Ok(at)
+        push(&mut self.nodes, node)
+    }
+
+    /// Adds the nodes of a declared type, and gives its node. The parameter of number n is the n-th node of
+    /// `given`, or stays a parameter where there is no such node. After an error the table may have nodes
+    /// more, and nothing is said of what it says of them.
+    pub fn plant(&mut self, given: &[usize], t: &Ty) -> Result<usize, AllocError>
+        requires given { AreBelow (length self.old) given.now }
+        requires declared { IsDeclared (ty t.now) }
+        ensures { IfOk result (λ at. Plants self.old given.now (ty t.now) self.new at) }
+    {
+        plant(self.alloc, &mut self.nodes, given, t)
     }
 
     /// What the table says of a node.
