@@ -5,3 +5,4 @@ mod PartLaws
 mod Sizes
 mod MarkLaws
 mod GrowthLaws
+mod VisitLaws

@@ -1,5 +1,5 @@
 -- Nodes whose types are found, and how many assignments fit a table.
-use Rattle.std.specs.Prelude.{ℕ, suc, ◌≡◌, ◌<◌, Bool, true, false, List, [], ◌∷◌, length, if◌then◌else◌}
+use Rattle.std.specs.Prelude.{ℕ, suc, ◌+◌, ◌≡◌, ◌<◌, Bool, true, false, List, [], ◌∷◌, length, if◌then◌else◌}
 use Rattle.std.proofs.Math.ListN.{get_or}
 use Rattle.tg_types.specs.Substitutions.{Assignment}
 use Rattle.tg_table.specs.declared.nodes.Node.{Node}
@@ -74,3 +74,15 @@ unmarked (y ∷ ys) = if y then unmarked ys else suc (unmarked ys)
 -- one more where something was done
 abbrev pub with_turn : Bool → ℕ → ℕ
 with_turn b n = if b then suc n else n
+
+-- the nodes that a node names
+abbrev pub parts_of : Node → List ℕ
+parts_of (Link k) = k ∷ []
+parts_of (App d ks) = ks
+parts_of node = []
+
+-- how much the nodes that were not visited can still add to a list of visits
+abbrev pub visits : List Node → List Bool → ℕ
+visits [] ys = 0
+visits (n ∷ ns) [] = 0
+visits (n ∷ ns) (y ∷ ys) = (if y then 0 else suc (suc (length (parts_of n)))) + visits ns ys

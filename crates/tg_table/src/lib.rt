@@ -10,6 +10,7 @@ mod planting;
 mod settling;
 mod tables;
 mod uniting;
+mod visiting;
 
 pub use nodes::Node;
 pub use settling::Solutions;

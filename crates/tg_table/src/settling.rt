@@ -6,6 +6,7 @@ ghost use Rattle.tg_table.specs.Marks.{is_marked, all_marked, is_ready, AreMarks
 ghost use Rattle.tg_table.specs.declared.nodes.Node.TheVariants.{Open};
 
 use super::nodes::Node;
+use super::visiting::visit;
 use std::alloc::{AllocError, Global};
 
 /// How many assignments fit a table.
@@ -26,6 +27,7 @@ pub(crate) fn settle(alloc: Global, nodes: &[Node]) -> Result<Solutions, AllocEr
     ensures { IfOk result (λ answer. Settles nodes.now answer) }
 {
     let mut marks = vec![in alloc; false; nodes.len()]?;
+    visit(alloc, nodes, &mut marks)?;
     let mut going = true;
     while going {
         going = round(nodes, &mut marks);
@@ -91,8 +93,8 @@ fn round(nodes: &[Node], marks: &mut [bool]) -> bool
     more
 }
 
-// Marks a node where it has no mark and its parts have. Tells whether it did.
-fn mark(nodes: &[Node], marks: &mut [bool], at: usize) -> bool
+/// Marks a node where it has no mark and its parts have. Tells whether it did.
+pub(crate) fn mark(nodes: &[Node], marks: &mut [bool], at: usize) -> bool
     requires table { IsTable nodes.now }
     requires marks { AreMarks nodes.now marks.old }
     requires inside { at < length nodes.now }
