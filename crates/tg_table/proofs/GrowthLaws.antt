@@ -1,21 +1,21 @@
 -- Laws of tables that grow, and of planted types.
-use Rattle.std.proofs.Common.{ℕ, zero, suc, ◌≡◌, ◌+◌, ◌-◌, ◌<◌, ◌≤◌, List, [], ◌∷◌, ◌++◌, length, get_or, take, map, nat_eq, if◌then◌else◌, refl, ap, sym, ◌∙◌, subst, arith, inl, inr}
-use Rattle.std.specs.Prelude.{◌≢◌, Option, Some, None, slice_get, unwrap_or, Result, Ok, Err, IfOk}
+use Rattle.std.proofs.Common.{ℕ, zero, suc, ◌≡◌, ◌+◌, ◌-◌, ◌<◌, ◌≤◌, List, [], ◌∷◌, ◌++◌, length, get_or, take, nat_eq, if◌then◌else◌, refl, ap, sym, ◌∙◌, subst, arith, inl, inr}
+use Rattle.std.specs.Prelude.{◌≢◌, Some, None, slice_get, unwrap_or, Result, Ok, Err, IfOk}
 use Rattle.std.proofs.lemmas.Bool.{eq-eqb}
 use Rattle.std.proofs.lemmas.Bool.Decides.{eqb_tells}
-use Rattle.std.proofs.lemmas.List.{take_more, map-append}
+use Rattle.std.proofs.lemmas.List.{take_more}
 use Rattle.tg_model.specs.Types as model
 use Rattle.tg_model.specs.Types.{listed}
-use Rattle.tg_model.specs.Theory.{instance, instances, numbered}
+use Rattle.tg_model.specs.Theory.{instance, instances}
 use Rattle.tg_types.specs.declared.types.Ty as declared
 use Rattle.tg_types.specs.Types.{ty, types}
 use Rattle.tg_types.specs.Substitutions.{Assignment}
 use Rattle.tg_table.specs.declared.nodes.Node.{Node}
-use Rattle.tg_table.specs.declared.nodes.Node.TheVariants.{Open, Link, Nat, Bool, Param, App}
+use Rattle.tg_table.specs.declared.nodes.Node.TheVariants.{Open, Nat, Bool, Param, App}
 use Rattle.tg_table.specs.Nodes.{types_of, Says, node_at, Fits, AreBelow, Names, IsTable}
-use Rattle.tg_table.specs.Growth.{Extended, Grows, IsDeclared, AreDeclared, Plants, PlantsAll}
+use Rattle.tg_table.specs.Growth.{Grows, IsDeclared, AreDeclared, Plants, PlantsAll}
 use Rattle.tg_table.proofs.NodeLaws.{pushed_old, pushed_new, pushed_length}
-use Rattle.tg_table.proofs.PartLaws.{EachPart, named_parts, says_same, value, says_value, says_alike}
+use Rattle.tg_table.proofs.PartLaws.{named_parts, says_same, value, says_value, says_alike}
 
 pub grows_itself : (ns : List Node) → Grows ns ns
 grows_itself ns = record {
@@ -66,12 +66,12 @@ module _ (ns : List Node) (n : Node) (t : IsTable ns) (names : Names (length ns)
     | inl p ↦
         subst (λ x. Says (with_type ρ) x (node_at (ns ++ n ∷ []) x)) (sym p.1)
         (subst (Says (with_type ρ) (length ns)) (sym (pushed_new ns n))
-          (says_value (λ k. k < length ns) ρ (with_type ρ) model.nat (length ns) n (named_parts (length ns) (length ns) n (omega arith) names) (type_old ρ) (type_here ρ)))
+        (says_value (λ k. k < length ns) ρ (with_type ρ) model.nat (length ns) n (named_parts (length ns) (length ns) n (omega arith) names) (type_old ρ) (type_here ρ)))
     | inr p ↦
         let k : i < length ns = omega (arith, h, more, p.1) in
         subst (Says (with_type ρ) i) (sym (pushed_old ns n i k))
         (says_same (λ x. x < length ns) ρ (with_type ρ) i (node_at ns i) (named_parts (length ns) i (node_at ns i) (omega (arith, k)) (t.at i k)) (type_old ρ) (type_old ρ i k) (f.at i k))
-    ]
+  ]
 
   pub grows_pushed : n ≢ Open → Grows ns (ns ++ n ∷ [])
   grows_pushed shut = record {
@@ -82,9 +82,9 @@ module _ (ns : List Node) (n : Node) (t : IsTable ns) (names : Names (length ns)
       | inl p ↦
           subst (λ x. ρ x ≡ φ x) (sym p.1)
           (says_alike (λ k. k < length ns) ρ φ (length ns) n (named_parts (length ns) (length ns) n (omega arith) names) e (λ o. absurd (shut o))
-            (pushed_says ρ f) (pushed_says φ g))
+          (pushed_says ρ f) (pushed_says φ g))
       | inr p ↦ e i (omega (arith, h, more, p.1))
-      ];
+    ];
   }
 
 -- the node of a call of `push`
@@ -215,7 +215,7 @@ pub plants_next : (old mid new : List Node) (given ks longer : List ℕ) (k : �
     PlantsAll old given (types (take (i + 1) ts)) new longer
 plants_next old mid new given ks longer k ts i t h e p q m =
     let s : types (take (i + 1) ts) ≡ snoc (types (take i ts)) (ty t) =
-        ap types (take_more ts i t h) ∙ types_end (take i ts) (get_or ts i t) ∙ ap (λ x. snoc (types (take i ts)) (ty x)) (sym e) in
+    ap types (take_more ts i t h) ∙ types_end (take i ts) (get_or ts i t) ∙ ap (λ x. snoc (types (take i ts)) (ty x)) (sym e) in
     subst (PlantsAll old given (types (take (i + 1) ts)) new) (sym m) (record {
       grows = grows_then p.grows q.grows;
       inside = below_end (length mid) (length new) ks k q.grows.longer p.inside q.inside;

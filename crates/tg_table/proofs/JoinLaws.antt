@@ -1,5 +1,5 @@
 -- Laws of two roots made one node.
-use Rattle.std.proofs.Common.{ℕ, zero, suc, ◌≡◌, ◌+◌, ◌<◌, ◌≤◌, Bool as Truth, true, false, List, [], ◌∷◌, ◌++◌, length, get_or, set, nat_eq, if◌then◌else◌, refl, ap, sym, ◌∙◌, ◌↔◌, subst, arith, inl, inr}
+use Rattle.std.proofs.Common.{ℕ, suc, ◌≡◌, ◌+◌, ◌<◌, ◌≤◌, Bool as Truth, true, false, List, [], ◌∷◌, ◌++◌, length, get_or, set, nat_eq, if◌then◌else◌, refl, ap, sym, ◌∙◌, subst, arith, inl, inr}
 use Rattle.std.specs.Prelude.{◌≢◌}
 use Rattle.std.proofs.lemmas.Bool.{eqb-true}
 use Rattle.std.proofs.lemmas.Bool.Decides.{eqb_tells}
@@ -8,9 +8,9 @@ use Rattle.tg_model.specs.Types as model
 use Rattle.tg_types.specs.Substitutions.{Assignment}
 use Rattle.tg_table.specs.declared.nodes.Node.{Node}
 use Rattle.tg_table.specs.declared.nodes.Node.TheVariants.{Open, Link, Nat, Bool, Param, App}
-use Rattle.tg_table.specs.Nodes.{types_of, Says, node_at, Fits, AreBelow, Names, IsTable, IsRoot, SameFits, HasTypeOf, KeepsRoots}
-use Rattle.tg_table.specs.Pairs.{AreSame, PairsBelow, paired, Meeting, first, second, parts, never, meet, meet_applied, Carries, NoneFits, CarriesOr, IsUnion, Unites, weight, weights}
-use Rattle.tg_table.proofs.NodeLaws.{says_at, names_root, node_here, node_other, set_fits, fits_here, fits_other, fits_unset, table_set, weights_set}
+use Rattle.tg_table.specs.Nodes.{types_of, Says, node_at, Fits, AreBelow, Names, IsTable, IsRoot}
+use Rattle.tg_table.specs.Pairs.{AreSame, PairsBelow, paired, Meeting, first, second, parts, never, meet, Carries, NoneFits, weight, weights}
+use Rattle.tg_table.proofs.NodeLaws.{says_at, names_root, node_other, set_fits, fits_here, fits_other, fits_unset, table_set, weights_set}
 
 -- lists of pairs
 pub same_append : (ρ : Assignment) (ps qs : List (ℕ × ℕ)) → AreSame ρ (ps ++ qs) → AreSame ρ ps × AreSame ρ qs
@@ -70,7 +70,7 @@ two_parameters m n true e = λ ρ i s. s ∙ ap model.parameter (eqb-true m n e)
 two_parameters m n false e = λ ρ i s r. elim (eqb_tells m n) [
   | inl p ↦ cc
   | inr p ↦ let same : model.parameter m ≡ model.parameter n = sym s ∙ r in p.1 cc
-  ]
+]
 
 two_applied : (d : ℕ) (ks : List ℕ) (e : ℕ) (ls : List ℕ) (p q : Truth) → nat_eq d e ≡ p → nat_eq (length ks) (length ls) ≡ q →
     Means (App d ks) (App e ls) (if p then (if q then parts ks ls else never) else never)
@@ -181,7 +181,7 @@ module _ (ns : List Node) (work : List (ℕ × ℕ)) (low high : ℕ) (t : IsTab
     below = pairs;
     same = λ ρ. (
       λ p. let q = unlinked ρ p.0 (met e ρ low) in (q.0, append_same ρ work ((low, high) ∷ []) p.1 (q.1, tt)),
-      λ p. let q = same_append ρ work ((low, high) ∷ []) p.1 in (relinked ρ p.0 q.1.0, q.0)
+      λ p. let q = same_append ρ work ((low, high) ∷ []) p.1 in (relinked ρ p.0 q.1.0, q.0),
     );
   }
 
@@ -205,7 +205,7 @@ module _ (ns : List Node) (work : List (ℕ × ℕ)) (low high : ℕ) (t : IsTab
           let q = unlinked ρ f (λ h. s) in (q.0, append_same ρ work ((low, high) ∷ []) p.1 (q.1, tt)),
       λ p.
           let q = same_append ρ work ((low, high) ∷ []) p.1 in
-          (set_fits low b (relinked ρ p.0 q.1.0) (both ρ p.0 q.1.0).1, q.0)
+          (set_fits low b (relinked ρ p.0 q.1.0) (both ρ p.0 q.1.0).1, q.0),
     );
   }
 
@@ -244,7 +244,7 @@ module _ (ns : List Node) (work : List (ℕ × ℕ)) (low high : ℕ) (t : IsTab
           λ p.
               let r = same_append ρ work (paired ks ls) p.1 in
               let q = unlinked ρ p.0 (λ s. subst (Says ρ low) (sym m.2)
-                  (subst (Says ρ low) m.1 s ∙ ap (model.applied m.0) (paired_types ρ ks ls m.3 r.1))) in
+              (subst (Says ρ low) m.1 s ∙ ap (model.applied m.0) (paired_types ρ ks ls m.3 r.1))) in
               (q.0, append_same ρ work ((low, high) ∷ []) r.0 (q.1, tt)),
           λ p.
               let q = same_append ρ work ((low, high) ∷ []) p.1 in
@@ -252,7 +252,7 @@ module _ (ns : List Node) (work : List (ℕ × ℕ)) (low high : ℕ) (t : IsTab
               let x : ρ low ≡ model.applied m.0 (types_of ρ ks) = subst (Says ρ low) m.1 s.0 in
               let y : ρ low ≡ model.applied m.0 (types_of ρ ls) = subst (Says ρ low) m.2 s.1 in
               let z : model.applied m.0 (types_of ρ ks) ≡ model.applied m.0 (types_of ρ ls) = sym x ∙ y in
-              (relinked ρ p.0 q.1.0, append_same ρ work (paired ks ls) q.0 (types_paired ρ ks ls cc))
+              (relinked ρ p.0 q.1.0, append_same ρ work (paired ks ls) q.0 (types_paired ρ ks ls cc)),
         );
       }
 

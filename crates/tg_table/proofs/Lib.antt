@@ -6,3 +6,4 @@ mod Sizes
 mod MarkLaws
 mod GrowthLaws
 mod VisitLaws
+mod KnownTables

@@ -1,6 +1,6 @@
 -- Laws of marks, and what a table settles to where no further node can be marked.
-use Rattle.std.proofs.Common.{ℕ, zero, suc, ◌≡◌, ◌+◌, ◌<◌, ◌≤◌, Bool as Truth, true, false, List, [], ◌∷◌, length, get_or, set, replicate, nat_eq, if◌then◌else◌, refl, ap, sym, ◌∙◌, subst, arith, inl, inr}
-use Rattle.std.specs.Prelude.{◌≢◌, Option, Some, None}
+use Rattle.std.proofs.Common.{ℕ, zero, suc, ◌≡◌, ◌<◌, ◌≤◌, Bool as Truth, true, false, List, [], ◌∷◌, length, set, replicate, nat_eq, if◌then◌else◌, refl, ap, sym, ◌∙◌, subst, arith, inl, inr}
+use Rattle.std.specs.Prelude.{◌≢◌}
 use Rattle.std.proofs.lemmas.Bool.{eq-eqb}
 use Rattle.std.proofs.lemmas.Bool.Decides.{eqb_tells}
 use Rattle.std.proofs.lemmas.List.{get_or-set_same, get_or-set_other, length-set, length-replicate}
@@ -9,9 +9,9 @@ use Rattle.tg_types.specs.Substitutions.{Assignment}
 use Rattle.tg_table.specs.declared.nodes.Node.{Node}
 use Rattle.tg_table.specs.declared.nodes.Node.TheVariants.{Open, Link, Nat, Bool, Param, App}
 use Rattle.tg_table.specs.Nodes.{types_of, Says, node_at, Fits, AreBelow, Names, IsTable}
-use Rattle.tg_table.specs.Marks.{HasNone, HasOne, HasSeveral, is_marked, all_marked, is_ready, Built, AgreeAtOpen, AreMarks, IsStuck, unmarked}
+use Rattle.tg_table.specs.Marks.{HasOne, HasSeveral, is_marked, all_marked, is_ready, Built, AgreeAtOpen, AreMarks, IsStuck, unmarked}
 use Rattle.tg_table.proofs.Sizes.{size, sizes}
-use Rattle.tg_table.proofs.PartLaws.{EachPart, ready_parts, says_same, value, says_value, says_alike}
+use Rattle.tg_table.proofs.PartLaws.{ready_parts, says_same, value, says_value, says_alike}
 
 -- a place with a mark is one of the list
 marked_inside : (ys : List Truth) (k : ℕ) → is_marked ys k ≡ true → k < length ys
@@ -29,7 +29,7 @@ marked_more : (ys : List Truth) (i k : ℕ) → i < length ys → is_marked ys k
 marked_more ys i k h e = elim (eqb_tells k i) [
   | inl p ↦ subst (λ x. is_marked (set ys i true) x ≡ true) (sym p.1) (marked_here ys i h)
   | inr p ↦ marked_other ys i k p.1 ∙ e
-  ]
+]
 
 all_more : (ys : List Truth) (i : ℕ) (ks : List ℕ) → i < length ys → all_marked ys ks ≡ true → all_marked (set ys i true) ks ≡ true
 all_more ys i [] h e = refl
@@ -76,7 +76,7 @@ module _ (ns : List Node) (ys : List Truth) (i : ℕ) (m : AreMarks ns ys) (h : 
   closed j k e = elim (eqb_tells j i) [
     | inl p ↦ subst (λ x. is_ready (set ys i true) (node_at ns x) ≡ true) (sym p.1) (ready_more ys i (node_at ns i) within ready)
     | inr p ↦ ready_more ys i (node_at ns j) within (m.closed j k (earlier j p.1 e))
-    ]
+  ]
 
   -- the type of the node added to those of the others
   with_type : (c : Assignment) → Built ns ys c → Assignment
@@ -95,12 +95,12 @@ module _ (ns : List Node) (ys : List Truth) (i : ℕ) (m : AreMarks ns ys) (h : 
     | inl p ↦
         subst (λ x. Says (with_type c b) x (node_at ns x)) (sym p.1)
         (says_value (λ x. is_marked ys x ≡ true) b.types (with_type c b) (c i) i (node_at ns i) (ready_parts ys (node_at ns i) ready)
-          (λ x f. type_other c b x (apart x f)) (type_here c b))
+        (λ x f. type_other c b x (apart x f)) (type_here c b))
     | inr p ↦
         let f : is_marked ys j ≡ true = earlier j p.1 e in
         says_same (λ x. is_marked ys x ≡ true) b.types (with_type c b) j (node_at ns j) (ready_parts ys (node_at ns j) (m.closed j k f))
         (λ x g. type_other c b x (apart x g)) (type_other c b j p.1) (b.says j k f)
-    ]
+  ]
 
   free_next : (c : Assignment) (b : Built ns ys c) (j : ℕ) → j < length ns → is_marked next j ≡ true → node_at ns j ≡ Open → with_type c b j ≡ c j
   free_next c b j k e o = elim (eqb_tells j i) [
@@ -108,7 +108,7 @@ module _ (ns : List Node) (ys : List Truth) (i : ℕ) (m : AreMarks ns ys) (h : 
         subst (λ x. node_at ns x ≡ Open → with_type c b x ≡ c x) (sym p.1)
         (λ q. type_here c b ∙ ap (value b.types (c i)) q) o
     | inr p ↦ type_other c b j p.1 ∙ b.free j k (earlier j p.1 e) o
-    ]
+  ]
 
   alike_old : (ρ φ : Assignment) → Fits ρ ns → Fits φ ns → AgreeAtOpen ns next ρ φ → (j : ℕ) → is_marked ys j ≡ true → ρ j ≡ φ j
   unfolding next
@@ -120,9 +120,9 @@ module _ (ns : List Node) (ys : List Truth) (i : ℕ) (m : AreMarks ns ys) (h : 
     | inl p ↦
         subst (λ x. ρ x ≡ φ x) (sym p.1)
         (says_alike (λ x. is_marked ys x ≡ true) ρ φ i (node_at ns i) (ready_parts ys (node_at ns i) ready) (λ x q. alike_old ρ φ f g o x q)
-          (λ q. o i h (marked_here ys i within) q) (f.at i h) (g.at i h))
+        (λ q. o i h (marked_here ys i within) q) (f.at i h) (g.at i h))
     | inr p ↦ alike_old ρ φ f g o j (earlier j p.1 e)
-    ]
+  ]
 
   pub marks_next : AreMarks ns (set ys i true)
   unfolding next
@@ -212,3 +212,5 @@ module _ (ns : List Node) (ys : List Truth) (m : AreMarks ns ys) (all : (i : ℕ
         let e : model.nat ≡ model.bool = sym ((m.built (λ k. model.nat)).free i h (all i h) o) ∙ same ∙ (m.built (λ k. model.bool)).free i h (all i h) o in
         cc;
   }
+
+pub ruleset settled = (stuck_none, settled_one, settled_several)

@@ -1,12 +1,12 @@
 -- Laws of tables, and of one node that is written.
-use Rattle.std.proofs.Common.{ℕ, zero, suc, ◌≡◌, ◌+◌, ◌<◌, ◌≤◌, List, [], ◌∷◌, ◌++◌, length, get_or, set, refl, ap, sym, ◌∙◌, ◌↔◌, subst, arith, inl, inr}
+use Rattle.std.proofs.Common.{ℕ, zero, suc, ◌≡◌, ◌+◌, ◌<◌, ◌≤◌, List, [], ◌∷◌, ◌++◌, length, get_or, set, refl, ap, sym, ◌∙◌, subst, arith, inl, inr}
 use Rattle.std.specs.Prelude.{◌≢◌}
 use Rattle.std.proofs.lemmas.Bool.Decides.{eqb_tells}
 use Rattle.std.proofs.lemmas.List.{get_or-set_same, get_or-set_other, length-set, get_or_read}
 use Rattle.tg_types.specs.Substitutions.{Assignment}
 use Rattle.tg_table.specs.declared.nodes.Node.{Node}
 use Rattle.tg_table.specs.declared.nodes.Node.TheVariants.{Open, Link, Nat, Bool, Param, App}
-use Rattle.tg_table.specs.Nodes.{types_of, Says, node_at, Fits, AreBelow, Names, IsTable, IsRoot, SameFits, HasTypeOf, KeepsRoots}
+use Rattle.tg_table.specs.Nodes.{Says, node_at, Fits, AreBelow, Names, IsTable, IsRoot, SameFits, HasTypeOf, KeepsRoots}
 use Rattle.tg_table.specs.Pairs.{weight, weights}
 
 -- what a node says depends on its type alone
@@ -38,10 +38,10 @@ set_fits {ρ} {ns} i n f s = record {
   at = λ j h.
       let k : j < length ns = omega (arith, h, length-set ns i n) in
       elim (eqb_tells j i) [
-      | inl p ↦
-          subst (λ x. Says ρ x (node_at (set ns i n) x)) (sym p.1)
-          (subst (Says ρ i) (sym (node_here ns i n (subst (λ x. x < length ns) p.1 k))) s)
-      | inr p ↦ subst (Says ρ j) (sym (node_other ns i j n p.1)) (f.at j k)
+        | inl p ↦
+            subst (λ x. Says ρ x (node_at (set ns i n) x)) (sym p.1)
+            (subst (Says ρ i) (sym (node_here ns i n (subst (λ x. x < length ns) p.1 k))) s)
+        | inr p ↦ subst (Says ρ j) (sym (node_other ns i j n p.1)) (f.at j k)
       ];
 }
 
@@ -56,7 +56,7 @@ fits_unset {ρ} ns i n f s = record {
   at = λ j h. elim (eqb_tells j i) [
     | inl p ↦ subst (λ x. Says ρ x (node_at ns x)) (sym p.1) s
     | inr p ↦ fits_other ns i j n f h p.1
-    ];
+  ];
 }
 
 pub table_set : {ns : List Node} (i : ℕ) (n : Node) → IsTable ns → Names (length ns) i n → IsTable (set ns i n)
@@ -65,10 +65,10 @@ table_set {ns} i n t s = record {
       let e : length (set ns i n) ≡ length ns = length-set ns i n in
       let k : j < length ns = omega (arith, h, e) in
       subst (λ m. Names m j (node_at (set ns i n) j)) (sym e) (elim (eqb_tells j i) [
-      | inl p ↦
-          subst (λ x. Names (length ns) x (node_at (set ns i n) x)) (sym p.1)
-          (subst (Names (length ns) i) (sym (node_here ns i n (subst (λ x. x < length ns) p.1 k))) s)
-      | inr p ↦ subst (Names (length ns) j) (sym (node_other ns i j n p.1)) (t.at j k)
+        | inl p ↦
+            subst (λ x. Names (length ns) x (node_at (set ns i n) x)) (sym p.1)
+            (subst (Names (length ns) i) (sym (node_here ns i n (subst (λ x. x < length ns) p.1 k))) s)
+        | inr p ↦ subst (Names (length ns) j) (sym (node_other ns i j n p.1)) (t.at j k)
       ]);
 }
 
@@ -121,7 +121,7 @@ module _ (ns : List Node) (i k far : ℕ) (t : IsTable ns) (h : i < length ns) (
           let here : ρ i ≡ ρ far = fits_here ns i (Link far) g h in
           let next : ρ k ≡ ρ far = subst (Says ρ k) f (fits_other ns i k (Link far) g inside apart) in
           fits_unset ns i (Link far) g (subst (Says ρ i) (sym e) (here ∙ sym next)),
-      λ g. set_fits i (Link far) g (link_same i k g h e ∙ link_same k far g inside f)
+      λ g. set_fits i (Link far) g (link_same i k g h e ∙ link_same k far g inside f),
     );
   }
 
@@ -132,7 +132,7 @@ module _ (ns : List Node) (i k far : ℕ) (t : IsTable ns) (h : i < length ns) (
   halved_roots j r = elim (eqb_tells j i) [
     | inl p ↦ absurd (subst IsRoot (ap (node_at ns) p.1 ∙ e) r)
     | inr p ↦ subst IsRoot (sym (node_other ns i j (Link far) p.1)) r
-    ]
+  ]
 
 below_more : (m n : ℕ) (ks : List ℕ) → m ≤ n → AreBelow m ks → AreBelow n ks
 below_more m n [] h b = tt
@@ -165,11 +165,11 @@ table_pushed {ns} n t s = record {
       let l : length (ns ++ n ∷ []) ≡ suc (length ns) = pushed_length ns n in
       let m : length ns ≤ length (ns ++ n ∷ []) = omega (arith, l) in
       elim (eqb_tells i (length ns)) [
-      | inl p ↦
-          subst (λ x. Names (length (ns ++ n ∷ [])) x (node_at (ns ++ n ∷ []) x)) (sym p.1)
-          (subst (Names (length (ns ++ n ∷ [])) (length ns)) (sym (pushed_new ns n)) (names_more (length ns) (length (ns ++ n ∷ [])) (length ns) n m s))
-      | inr p ↦
-          let k : i < length ns = omega (arith, h, l, p.1) in
-          subst (Names (length (ns ++ n ∷ [])) i) (sym (pushed_old ns n i k)) (names_more (length ns) (length (ns ++ n ∷ [])) i (node_at ns i) m (t.at i k))
+        | inl p ↦
+            subst (λ x. Names (length (ns ++ n ∷ [])) x (node_at (ns ++ n ∷ []) x)) (sym p.1)
+            (subst (Names (length (ns ++ n ∷ [])) (length ns)) (sym (pushed_new ns n)) (names_more (length ns) (length (ns ++ n ∷ [])) (length ns) n m s))
+        | inr p ↦
+            let k : i < length ns = omega (arith, h, l, p.1) in
+            subst (Names (length (ns ++ n ∷ [])) i) (sym (pushed_old ns n i k)) (names_more (length ns) (length (ns ++ n ∷ [])) i (node_at ns i) m (t.at i k))
       ];
 }

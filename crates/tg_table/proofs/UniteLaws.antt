@@ -4,7 +4,7 @@ use Rattle.std.specs.Prelude.{Result, Ok, Err, IfOk}
 use Rattle.tg_types.specs.Substitutions.{Assignment}
 use Rattle.tg_table.specs.declared.nodes.Node.{Node}
 use Rattle.tg_table.specs.Nodes.{Fits, IsTable, SameFits, HasTypeOf}
-use Rattle.tg_table.specs.Pairs.{AreSame, PairsBelow, Carries, NoneFits, CarriesOr, IsUnion, Unites}
+use Rattle.tg_table.specs.Pairs.{AreSame, PairsBelow, Carries, NoneFits, CarriesOr, IsUnion}
 use Rattle.tg_table.proofs.JoinLaws.{same_append, append_same, append_below}
 
 -- one pair for another with the same types
@@ -34,7 +34,7 @@ module _ (old mid new : List Node) (work : List (ℕ × ℕ)) (a b x y : ℕ)
     below = subst (λ n. PairsBelow n left) (second.long ∙ first.long) c.below;
     same = λ ρ. (
       λ p. let q = (c.same ρ).0 p in (out ρ q.0, swapped ρ work (x, y) (a, b) (back ρ (out ρ q.0)) q.1),
-      λ p. (c.same ρ).1 (into ρ p.0, swapped ρ work (a, b) (x, y) (there ρ p.0) p.1)
+      λ p. (c.same ρ).1 (into ρ p.0, swapped ρ work (a, b) (x, y) (there ρ p.0) p.1),
     );
   }
   by_roots false last left c = λ ρ f s. c ρ (into ρ f) (swapped ρ work (a, b) (x, y) (there ρ f) s)
@@ -47,7 +47,7 @@ module _ (old mid new : List Node) (work : List (ℕ × ℕ)) (a b x y : ℕ)
     below = subst (λ n. PairsBelow n left) (second.long ∙ first.long) c.below;
     same = λ ρ. (
       λ p. let q = (c.same ρ).0 p in (out ρ q.0, swapped ρ work (y, x) (a, b) (λ e. back ρ (out ρ q.0) (sym e)) q.1),
-      λ p. (c.same ρ).1 (into ρ p.0, swapped ρ work (a, b) (y, x) (λ e. sym (there ρ p.0 e)) p.1)
+      λ p. (c.same ρ).1 (into ρ p.0, swapped ρ work (a, b) (y, x) (λ e. sym (there ρ p.0 e)) p.1),
     );
   }
   by_roots_turned false last left c = λ ρ f s. c ρ (into ρ f) (swapped ρ work (a, b) (y, x) (λ e. sym (there ρ f e)) s)
@@ -70,7 +70,7 @@ module _ (old mid new : List Node) (work : List (ℕ × ℕ)) (a b x y : ℕ)
     below = w;
     same = λ ρ. (
       λ p. (out ρ p.0, append_same ρ work ((a, b) ∷ []) p.1 (back ρ (out ρ p.0) (ap ρ e), tt)),
-      λ p. let q = same_append ρ work ((a, b) ∷ []) p.1 in (into ρ p.0, q.0)
+      λ p. let q = same_append ρ work ((a, b) ∷ []) p.1 in (into ρ p.0, q.0),
     );
   }
 
@@ -83,7 +83,7 @@ carries_on old mid new asked work rest left p true c e d = record {
   below = subst (λ n. PairsBelow n left) c.long d.below;
   same = λ ρ. (
     λ q. let r = (d.same ρ).0 q in (c.same ρ).0 (r.0, subst (AreSame ρ) (sym e) r.1),
-    λ q. let r = (c.same ρ).1 q in (d.same ρ).1 (r.0, subst (AreSame ρ) e r.1)
+    λ q. let r = (c.same ρ).1 q in (d.same ρ).1 (r.0, subst (AreSame ρ) e r.1),
   );
 }
 carries_on old mid new asked work rest left p false c e d = λ ρ f s. let r = (c.same ρ).1 (f, s) in d ρ r.0 (subst (AreSame ρ) e r.1)

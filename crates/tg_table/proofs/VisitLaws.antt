@@ -1,5 +1,5 @@
 -- Laws of the visits of nodes.
-use Rattle.std.proofs.Common.{ℕ, zero, suc, ◌≡◌, ◌+◌, ◌<◌, ◌≤◌, Bool as Truth, true, false, List, [], ◌∷◌, ◌++◌, length, get_or, set, replicate, if◌then◌else◌, refl, ap, sym, ◌∙◌, subst, arith}
+use Rattle.std.proofs.Common.{ℕ, zero, suc, ◌≡◌, ◌+◌, ◌<◌, ◌≤◌, Bool as Truth, true, false, List, [], ◌∷◌, ◌++◌, length, get_or, set, ap, sym, ◌∙◌, subst, arith}
 use Rattle.std.proofs.lemmas.List.{length-append, get_or_read}
 use Rattle.tg_table.specs.declared.nodes.Node.{Node}
 use Rattle.tg_table.specs.declared.nodes.Node.TheVariants.{Open, Link, Nat, Bool, Param, App}
@@ -50,8 +50,8 @@ module _ (ns : List Node) (ys : List Truth) (list pushed next : List ℕ) (at : 
   pub next_below : AreBelow (length ns) next
   next_below = subst (AreBelow (length ns)) (sym parts)
       (listed_append (length ns) pushed (parts_of node)
-        (subst (AreBelow (length ns)) (sym again) (listed_append (length ns) list (at ∷ []) below (inside, tt)))
-        (subst (λ x. AreBelow (length ns) (parts_of x)) (sym is_node) (named_listed (length ns) at (node_at ns at) inside (t.at at inside))))
+      (subst (AreBelow (length ns)) (sym again) (listed_append (length ns) list (at ∷ []) below (inside, tt)))
+      (subst (λ x. AreBelow (length ns) (parts_of x)) (sym is_node) (named_listed (length ns) at (node_at ns at) inside (t.at at inside))))
 
   pub next_fewer : visits ns (set ys at true) + length next ≤ visits ns ys + length list
   next_fewer =

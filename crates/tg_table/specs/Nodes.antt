@@ -1,7 +1,7 @@
 -- Tables of nodes and the assignments that fit them.
-use Rattle.std.specs.Prelude.{ℕ, ◌+◌, ◌≡◌, ◌<◌, ◌↔◌, List, [], ◌∷◌, length}
+use Rattle.std.specs.Prelude.{ℕ, ◌≡◌, ◌<◌, ◌↔◌, List, [], ◌∷◌, length}
 use Rattle.std.proofs.Math.ListN.{get_or}
-use Rattle.tg_model.specs.Types.{Ty, Tys, nat, bool, parameter, applied, none, more}
+use Rattle.tg_model.specs.Types.{Tys, nat, bool, parameter, applied, none, more}
 use Rattle.tg_types.specs.Substitutions.{Assignment}
 use Rattle.tg_table.specs.declared.nodes.Node.{Node}
 use Rattle.tg_table.specs.declared.nodes.Node.TheVariants.{Open, Link, Nat, Bool, Param, App}

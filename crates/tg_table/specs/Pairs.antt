@@ -1,9 +1,9 @@
 -- Pairs of nodes that are to have one type.
-use Rattle.std.specs.Prelude.{ℕ, zero, suc, ◌+◌, ◌≡◌, ◌<◌, ◌↔◌, Bool as Truth, true, false, List, [], ◌∷◌, length, nat_eq, if◌then◌else◌}
+use Rattle.std.specs.Prelude.{ℕ, suc, ◌+◌, ◌≡◌, ◌<◌, ◌↔◌, Bool as Truth, true, false, List, [], ◌∷◌, length, nat_eq, if◌then◌else◌}
 use Rattle.tg_types.specs.Substitutions.{Assignment}
 use Rattle.tg_table.specs.declared.nodes.Node.{Node}
 use Rattle.tg_table.specs.declared.nodes.Node.TheVariants.{Open, Link, Nat, Bool, Param, App}
-use Rattle.tg_table.specs.Nodes.{Fits, IsTable, AreBelow}
+use Rattle.tg_table.specs.Nodes.{Fits, IsTable}
 
 abbrev pub AreSame : Assignment → List (ℕ × ℕ) → Type 0
 AreSame ρ [] = Unit {0}

@@ -20,7 +20,12 @@ enum Meeting<'a> {
 
 /// Makes the root `high` a link to the earlier root `low`, which then says what both said; what their
 /// parts must have in common is added to `work`. `false` where no type is what both say.
-pub(crate) fn join(nodes: &mut [Node], work: &mut Vec<(usize, usize)>, low: usize, high: usize) -> Result<bool, AllocError>
+pub(crate) fn join(
+    nodes: &mut [Node],
+    work: &mut Vec<(usize, usize)>,
+    low: usize,
+    high: usize,
+) -> Result<bool, AllocError>
     requires table { IsTable nodes.old }
     requires work { PairsBelow (length nodes.old) work.old.items }
     requires order { low < high }
@@ -28,8 +33,10 @@ pub(crate) fn join(nodes: &mut [Node], work: &mut Vec<(usize, usize)>, low: usiz
     requires low { IsRoot (node_at nodes.old low) }
     requires high { IsRoot (node_at nodes.old high) }
     ensures table { IsTable nodes.new }
-    ensures carries { IfOk result (λ ok. CarriesOr ok nodes.old (work.old.items ++ (low, high) ∷ []) nodes.new work.new.items) }
-    ensures weights { IfOk result (λ ok. weights nodes.new + length work.new.items ≤ weights nodes.old + length work.old.items) }
+    ensures carries { IfOk result (λ ok.
+        CarriesOr ok nodes.old (work.old.items ++ (low, high) ∷ []) nodes.new work.new.items) }
+    ensures weights { IfOk result (λ ok.
+        weights nodes.new + length work.new.items ≤ weights nodes.old + length work.old.items) }
 {
     match roots(&nodes[low], &nodes[high]) {
         Meeting::First => {

@@ -9,6 +9,8 @@ mod nodes;
 mod planting;
 mod settling;
 mod tables;
+#[cfg(test)]
+mod tests;
 mod uniting;
 mod visiting;
 

@@ -13,12 +13,18 @@ use tg_types::Ty;
 /// Adds the nodes of a declared type, and gives its node. The parameter of number n is the n-th node of
 /// `given`, or stays a parameter where there is no such node.
 #[cycle(plant)]
-pub(crate) fn plant(alloc: Global, nodes: &mut Vec<Node>, given: &[usize], t: &Ty) -> Result<usize, AllocError>
+pub(crate) fn plant(
+    alloc: Global,
+    nodes: &mut Vec<Node>,
+    given: &[usize],
+    t: &Ty,
+) -> Result<usize, AllocError>
     requires table { IsTable nodes.old.items }
     requires given { AreBelow (length nodes.old.items) given.now }
     requires declared { IsDeclared (ty t.now) }
     ensures table { IsTable nodes.new.items }
-    ensures plants { IfOk result (λ at. Plants nodes.old.items given.now (ty t.now) nodes.new.items at) }
+    ensures plants { IfOk result (λ at.
+        Plants nodes.old.items given.now (ty t.now) nodes.new.items at) }
 {
     match t {
         Ty::Nat => push(nodes, Node::Nat),
@@ -33,12 +39,18 @@ pub(crate) fn plant(alloc: Global, nodes: &mut Vec<Node>, given: &[usize], t: &T
 }
 
 #[cycle(plant)]
-fn plant_all(alloc: Global, nodes: &mut Vec<Node>, given: &[usize], ts: &[Ty]) -> Result<Vec<usize>, AllocError>
+fn plant_all(
+    alloc: Global,
+    nodes: &mut Vec<Node>,
+    given: &[usize],
+    ts: &[Ty],
+) -> Result<Vec<usize>, AllocError>
     requires table { IsTable nodes.old.items }
     requires given { AreBelow (length nodes.old.items) given.now }
     requires declared { AreDeclared (types ts.now) }
     ensures table { IsTable nodes.new.items }
-    ensures plants { IfOk result (λ ks. PlantsAll nodes.old.items given.now (types ts.now) nodes.new.items ks.items) }
+    ensures plants { IfOk result (λ ks.
+        PlantsAll nodes.old.items given.now (types ts.now) nodes.new.items ks.items) }
 {
     let mut ks = Vec::new(alloc);
     for t in ts {
@@ -52,7 +64,8 @@ fn plant_parameter(nodes: &mut Vec<Node>, given: &[usize], number: u32) -> Resul
     requires table { IsTable nodes.old.items }
     requires given { AreBelow (length nodes.old.items) given.now }
     ensures table { IsTable nodes.new.items }
-    ensures plants { IfOk result (λ at. Plants nodes.old.items given.now (parameter number) nodes.new.items at) }
+    ensures plants { IfOk result (λ at.
+        Plants nodes.old.items given.now (parameter number) nodes.new.items at) }
 {
     let place = number as usize;
     if place == 0 {

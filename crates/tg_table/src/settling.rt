@@ -36,7 +36,7 @@ pub(crate) fn settle(alloc: Global, nodes: &[Node]) -> Result<Solutions, AllocEr
 }
 
 // The answer where no further node can be marked.
-#[tactic(auto, using(crate::proofs::MarkLaws::stuck_none, crate::proofs::MarkLaws::settled_one, crate::proofs::MarkLaws::settled_several))]
+#[tactic(auto, using(crate::proofs::MarkLaws::settled))]
 fn answer(nodes: &[Node], marks: &[bool]) -> Solutions
     requires table { IsTable nodes.now }
     requires marks { AreMarks nodes.now marks.now }
@@ -101,7 +101,8 @@ pub(crate) fn mark(nodes: &[Node], marks: &mut [bool], at: usize) -> bool
     ensures marks { AreMarks nodes.now marks.new }
     ensures fewer { with_turn result (unmarked marks.new) ≤ unmarked marks.old }
     ensures kept { OnFalse result (marks.new ≡ marks.old) }
-    ensures unready { OnFalse result (is_marked marks.old at ≡ false → is_ready marks.old (node_at nodes.now at) ≡ false) }
+    ensures unready { OnFalse result (
+        is_marked marks.old at ≡ false → is_ready marks.old (node_at nodes.now at) ≡ false) }
 {
     if marks[at] {
         return false;

@@ -9,7 +9,12 @@ use super::nodes::Node;
 use std::alloc::{AllocError, Global};
 
 /// Gives two nodes one type: a node whose type is both. `false` where no type is.
-pub(crate) fn unite(alloc: Global, nodes: &mut [Node], left: usize, right: usize) -> Result<bool, AllocError>
+pub(crate) fn unite(
+    alloc: Global,
+    nodes: &mut [Node],
+    left: usize,
+    right: usize,
+) -> Result<bool, AllocError>
     requires table { IsTable nodes.old }
     requires left { left < length nodes.old }
     requires right { right < length nodes.old }
@@ -26,14 +31,21 @@ pub(crate) fn unite(alloc: Global, nodes: &mut [Node], left: usize, right: usize
 }
 
 // Unites the roots of two nodes, and leaves in `work` what their parts must have in common.
-fn unite_pair(nodes: &mut [Node], work: &mut Vec<(usize, usize)>, a: usize, b: usize) -> Result<bool, AllocError>
+fn unite_pair(
+    nodes: &mut [Node],
+    work: &mut Vec<(usize, usize)>,
+    a: usize,
+    b: usize,
+) -> Result<bool, AllocError>
     requires table { IsTable nodes.old }
     requires work { PairsBelow (length nodes.old) work.old.items }
     requires a { a < length nodes.old }
     requires b { b < length nodes.old }
     ensures table { IsTable nodes.new }
-    ensures carries { IfOk result (λ ok. CarriesOr ok nodes.old (work.old.items ++ (a, b) ∷ []) nodes.new work.new.items) }
-    ensures weights { IfOk result (λ ok. weights nodes.new + length work.new.items ≤ weights nodes.old + length work.old.items) }
+    ensures carries { IfOk result (λ ok.
+        CarriesOr ok nodes.old (work.old.items ++ (a, b) ∷ []) nodes.new work.new.items) }
+    ensures weights { IfOk result (λ ok.
+        weights nodes.new + length work.new.items ≤ weights nodes.old + length work.old.items) }
 {
     let first = find(nodes, a);
     let second = find(nodes, b);

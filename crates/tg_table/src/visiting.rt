@@ -24,7 +24,13 @@ pub(crate) fn visit(alloc: Global, nodes: &[Node], marks: &mut [bool]) -> Result
 }
 
 // Lists the parts of a node above it, or marks it where its parts were listed before.
-fn visit_node(nodes: &[Node], marks: &mut [bool], visited: &mut [bool], list: &mut Vec<usize>, at: usize) -> Result<(), AllocError>
+fn visit_node(
+    nodes: &[Node],
+    marks: &mut [bool],
+    visited: &mut [bool],
+    list: &mut Vec<usize>,
+    at: usize,
+) -> Result<(), AllocError>
     requires table { IsTable nodes.now }
     requires marks { AreMarks nodes.now marks.old }
     requires long { length visited.old ≡ length nodes.now }
@@ -32,7 +38,9 @@ fn visit_node(nodes: &[Node], marks: &mut [bool], visited: &mut [bool], list: &m
     requires inside { at < length nodes.now }
     ensures marks { AreMarks nodes.now marks.new }
     ensures list { OnOk result (AreBelow (length nodes.now) list.new.items) }
-    ensures fewer { OnOk result (visits nodes.now visited.new + length list.new.items ≤ visits nodes.now visited.old + length list.old.items) }
+    ensures fewer { OnOk result (
+        visits nodes.now visited.new + length list.new.items
+        ≤ visits nodes.now visited.old + length list.old.items) }
 {
     if visited[at] {
         mark(nodes, marks, at);

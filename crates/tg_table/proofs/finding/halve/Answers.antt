@@ -1,4 +1,4 @@
-use Rattle.tg_table.proofs.NodeLaws.{halved, halved_weights, halved_roots}
+use Rattle.tg_table.proofs.NodeLaws.{halved, halved_weights}
 use Rattle.tg_table.proofs.finding.halve.Goals as goal
 
 pub returns-in-Link-clause-fits : goal.returns-in-Link-clause-fits

@@ -1,4 +1,4 @@
-use Rattle.std.proofs.Common.{◌≡◌, ◌++◌, [], ◌∷◌, sym, subst, length, ◌+◌, ◌≤◌, set}
+use Rattle.std.proofs.Common.{◌++◌, [], ◌∷◌, sym, subst, length, ◌+◌, ◌≤◌, set}
 use Rattle.tg_table.specs.Pairs.{Carries, weights}
 use Rattle.tg_table.specs.declared.nodes.Node.TheVariants.{Link}
 use Rattle.tg_table.proofs.JoinLaws.{first_carries, first_weights, second_written, second_written_weights, parts_carries, parts_weights, none_meets}

@@ -1,4 +1,3 @@
-use Rattle.std.proofs.Common.{arith}
 use Rattle.tg_table.proofs.GrowthLaws.{if_parameter, parameter_zero, parameter_past, given_parameter}
 use Rattle.tg_table.proofs.planting.plant_parameter.Goals as goal
 

@@ -1,4 +1,4 @@
-use Rattle.std.proofs.Common.{◌≡◌, ◌∙◌, sym, ap, arith, suc, true, ◌≤◌, ◌<◌, length}
+use Rattle.std.proofs.Common.{◌∙◌, sym, ap, arith, ◌<◌, length}
 use Rattle.std.proofs.lemmas.List.{get_or_read}
 use Rattle.tg_table.specs.Marks.{is_ready}
 use Rattle.tg_table.specs.declared.nodes.Node.TheVariants.{Open}

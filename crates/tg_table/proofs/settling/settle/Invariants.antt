@@ -1,4 +1,3 @@
-use Rattle.std.proofs.Common.{◌≡◌, ◌+◌, true, false}
 use Rattle.std.specs.Bool.{OnFalse}
 use Rattle.tg_table.specs.Marks.{AreMarks, IsStuck, unmarked, with_turn}
 use Rattle.tg_table.proofs.settling.settle.Given as goal

@@ -1,4 +1,4 @@
-use Rattle.std.proofs.Common.{arith, ◌≡◌, sym, subst, length}
+use Rattle.std.proofs.Common.{arith, sym, subst, length}
 use Rattle.tg_table.specs.Pairs.{PairsBelow}
 use Rattle.tg_table.proofs.UniteLaws.{popped_below}
 use Rattle.tg_table.proofs.uniting.unite.Goals as goal

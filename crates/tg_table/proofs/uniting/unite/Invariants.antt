@@ -1,4 +1,4 @@
-use Rattle.std.proofs.Common.{◌≡◌, ◌+◌, length, [], ◌∷◌}
+use Rattle.std.proofs.Common.{◌+◌, length, [], ◌∷◌}
 use Rattle.tg_table.specs.Pairs.{Carries, weights}
 use Rattle.tg_table.proofs.uniting.unite.Given as goal
 

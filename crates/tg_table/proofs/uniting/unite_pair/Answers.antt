@@ -1,4 +1,4 @@
-use Rattle.std.proofs.Common.{arith, ◌≡◌}
+use Rattle.std.proofs.Common.{arith}
 use Rattle.tg_table.proofs.UniteLaws.{if_by_roots, if_by_roots_turned, by_one_root}
 use Rattle.tg_table.proofs.uniting.unite_pair.Goals as goal
 
