@@ -1,0 +1,5 @@
+pub mod Nodes
+pub mod Pairs
+pub mod View
+pub mod Marks
+pub mod Growth
