@@ -27,6 +27,8 @@ pub(crate) fn settle(alloc: Global, nodes: &[Node]) -> Result<Solutions, AllocEr
     ensures { IfOk result (λ answer. Settles nodes.now answer) }
 {
     let mut marks = vec![in alloc; false; nodes.len()]?;
+    // The visits mark in linear time all that can be marked. The answer rests on the rounds alone, of
+    // which the first then finds nothing more; without the visits there could be as many as nodes.
     visit(alloc, nodes, &mut marks)?;
     let mut going = true;
     while going {
