@@ -22,7 +22,7 @@ use Rattle.tg_model.proofs.Keeping.{instantiation_keeps_truth, abstraction_keeps
 use Rattle.tg_kernel.specs.Hypotheses.{IsIn, AreSame, AreWithout}
 use Rattle.tg_kernel.specs.Rows.{Row, imp_true_l, imp_false_l, eq_true_r, eq_true_l, eq_false_r, eq_false_l}
 use Rattle.tg_kernel.specs.Derivation.{Derives, Computes, less_literals, less_equal_literals, hyp, grow, and_i, and_l, and_r, imp_i, mp, all_i, all_e, ex_i, thyp_e, truth_i, split, sym as symmetry, replace, schema, compute}
-use Rattle.tg_kernel.specs.Laws.{IsSound}
+use Rattle.tg_kernel.specs.Laws.{IsSound, IsConsistent}
 use Rattle.tg_kernel.proofs.Contexts.{used_in_formula}
 use Rattle.tg_kernel.proofs.Closed.{closed_value, replaced_truth}
 use Rattle.tg_kernel.proofs.Formed.{formed, in_left, in_right, at_end, elsewhere, unused_in, operands}
@@ -222,3 +222,6 @@ module _ (th : Theory) (wt : IsWellTyped th) (tb : Table) (table : IsTable th tb
 
 pub is_sound : IsSound
 is_sound th wt vars hs f d tb table env typed given = sound th wt tb table d env typed (listed_hypotheses th wt tb table env hs given)
+
+pub is_consistent : IsConsistent
+is_consistent th wt d = let e : boolean false ≡ boolean true = is_sound th wt [] [] (atom (truth false)) d [] tt [] tt tt in cc

@@ -1,7 +1,8 @@
 -- The laws of the calculus.
-use Rattle.std.specs.Prelude.{List, []}
+use Rattle.std.specs.Prelude.{List, [], false}
+use Rattle.tg_model.specs.Tree.{truth}
 use Rattle.tg_model.specs.Types.{Ty, tys}
-use Rattle.tg_model.specs.Formula.{Formula}
+use Rattle.tg_model.specs.Formula.{Formula, atom}
 use Rattle.tg_model.specs.Theory.{Theory, AreClosed}
 use Rattle.tg_model.specs.Table.{Table, IsTable}
 use Rattle.tg_model.specs.Truth.{IsTrueOn}
@@ -25,3 +26,7 @@ IsAboutFormed = (th : Theory) (vars : List Ty) (hs : List Formula) (f : Formula)
 abbrev pub IsSound : Type 0
 IsSound = (th : Theory) → IsWellTyped th → (vars : List Ty) (hs : List Formula) (f : Formula) → Derives th vars hs f
     → (tb : Table) → IsTable th tb → IsTrueOn th tb (record { vars = vars; hypotheses = hs; goal = f })
+
+-- In a well-typed theory False isn't derivable.
+abbrev pub IsConsistent : Type 0
+IsConsistent = (th : Theory) → IsWellTyped th → ¬ Derives th [] [] (atom (truth false))
