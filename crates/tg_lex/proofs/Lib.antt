@@ -5,4 +5,5 @@ pub mod Symbols
 pub mod Longest
 pub mod Sound
 pub mod Unique
-pub mod Readings
+pub mod Runs
+pub mod Effects

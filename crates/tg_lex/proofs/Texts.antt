@@ -24,7 +24,7 @@ blank_range : (b : ℕ) → is_blank b ≡ true → b ≤ 32
 blank_range b e = grind (arith, nat_tests)
 
 -- a text that begins as no word, number, type variable or separator does
-abbrev plain : List ℕ → Bool
+abbrev pub plain : List ℕ → Bool
 plain [] = false
 plain (b ∷ t) = not (is_letter b || is_digit b || b == 39 || is_blank b)
 
@@ -34,7 +34,7 @@ symbols_plain = refl
 symbols_short : list_all (λ e. nat_le (length e.name) 3) symbol_list ≡ true
 symbols_short = refl
 
-is_name : (a b : List ℕ) → bytes_eq a b ≡ true → a ≡ b
+pub is_name : (a b : List ℕ) → bytes_eq a b ≡ true → a ≡ b
 is_name [] [] e = refl
 is_name [] (y ∷ b) e = absurd cc
 is_name (x ∷ a) [] e = absurd cc
@@ -73,13 +73,13 @@ nothing_spelled TyVar s = cc
 nothing_spelled Number s = cc
 nothing_spelled (Sym code) s = cc
 
-record IsPlain (b : ℕ) : Type 0 where
-  no_letter : is_letter b ≡ false
-  no_digit : is_digit b ≡ false
-  no_quote : (b == 39) ≡ false
-  no_blank : is_blank b ≡ false
+pub record IsPlain (b : ℕ) : Type 0 where
+  pub no_letter : is_letter b ≡ false
+  pub no_digit : is_digit b ≡ false
+  pub no_quote : (b == 39) ≡ false
+  pub no_blank : is_blank b ≡ false
 
-plain_parts : (b : ℕ) → plain (b ∷ []) ≡ true → IsPlain b
+pub plain_parts : (b : ℕ) → plain (b ∷ []) ≡ true → IsPlain b
 plain_parts b e =
     let all = or_parts (is_letter b || is_digit b || b == 39) (is_blank b) (not-true (is_letter b || is_digit b || b == 39 || is_blank b) e) in
     let three = or_parts (is_letter b || is_digit b) (b == 39) all.0 in

@@ -9,10 +9,14 @@
 mod bytes;
 mod comment;
 mod digits;
+mod laws;
 mod lexing;
+mod load;
 mod part;
 mod symbol;
 mod token;
 
+pub use laws::{fronts, readings};
 pub use lexing::{lex, number};
+pub use load::{LOAD_LIMIT, is_nested};
 pub use token::{Kind, LexErr, Token};

@@ -1,4 +1,4 @@
-use Rattle.tg_lex.proofs.Readings.{only_all, exact_all, texts_all, rise_all}
+use Rattle.tg_lex.proofs.Runs.{only_all, exact_all, texts_all, rise_all}
 use Rattle.tg_lex.proofs.lexing.lex.Goals as goal
 
 pub returns-clause-only : goal.returns-clause-only

@@ -1,4 +1,4 @@
-use Rattle.tg_lex.proofs.Readings.{skip_step, token_step, fault_step}
+use Rattle.tg_lex.proofs.Runs.{skip_step, token_step, fault_step}
 use Rattle.tg_lex.proofs.lexing.tokens_of.Goals as goal
 
 pub loop-at-preserved-in-Ok-Skip : goal.loop-at-preserved-in-Ok-Skip

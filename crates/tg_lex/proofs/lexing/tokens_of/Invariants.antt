@@ -1,5 +1,5 @@
 use Rattle.std.proofs.Common.{◌-◌, length}
-use Rattle.tg_lex.proofs.Readings.{IsSoFar}
+use Rattle.tg_lex.proofs.Runs.{IsSoFar}
 use Rattle.tg_lex.proofs.lexing.tokens_of.Given as goal
 
 -- the tokens so far are those before `at`
