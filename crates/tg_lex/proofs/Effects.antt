@@ -8,7 +8,6 @@ use Rattle.tg_tables.specs.Rows.{Entry}
 use Rattle.tg_tables.specs.Lists.{symbol_list}
 use Rattle.tg_lex.specs.declared.token.Kind.{Kind}
 use Rattle.tg_lex.specs.declared.token.Kind.TheVariants.{Word, TyVar, Number, Sym}
-use Rattle.tg_lex.specs.declared.load.Effect.{Effect}
 use Rattle.tg_lex.specs.declared.load.Effect.TheVariants.{Opens, Closes, Resets, Counts, Nothing}
 use Rattle.tg_lex.specs.Bytes.{is_letter, is_digit}
 use Rattle.tg_lex.specs.Grammar.{code_in, Spells}

@@ -14,6 +14,8 @@ mod lexing;
 mod load;
 mod part;
 mod symbol;
+#[cfg(test)]
+mod tests;
 mod token;
 
 pub use laws::{fronts, readings};

@@ -1,5 +1,4 @@
-use Rattle.std.proofs.Common.{◌≡◌, ◌∙◌, subst, inl, inr}
-use Rattle.tg_lex.specs.declared.token.Kind.TheVariants.{Word, TyVar, Number, Sym}
+use Rattle.std.proofs.Common.{◌∙◌, subst, inl, inr}
 use Rattle.tg_lex.specs.Grammar.{Spells}
 use Rattle.tg_lex.specs.Load.{text_of}
 use Rattle.tg_lex.proofs.Effects.{at_symbol, at_word, at_number, at_variable}
