@@ -7,7 +7,7 @@ use Rattle.tg_lex.specs.declared.token.LexErr.{LexErr}
 use Rattle.tg_lex.specs.declared.token.LexErr.TheVariants as errors
 use Rattle.tg_lex.specs.declared.part.Fault.{Fault}
 use Rattle.tg_lex.specs.declared.part.Fault.TheVariants as faults
-use Rattle.tg_lex.specs.Grammar.{FailsAt}
+use Rattle.tg_lex.specs.Grammar.{Reads, FailsAt}
 
 -- the first fault from the left; of memory nothing is said
 abbrev pub IsFirstFault : List ℕ → LexErr → Type 0
@@ -31,3 +31,11 @@ TellsFault fault at before (Err (errors.Byte a b)) = (fault ≡ faults.Byte) × 
 TellsFault fault at before (Err (errors.Comment a b)) = (fault ≡ faults.Comment) × (a ≡ at) × (b ≡ before)
 TellsFault fault at before (Err (errors.Number a b)) = (fault ≡ faults.Number) × (a ≡ at) × (b ≡ before)
 TellsFault fault at before (Err errors.Memory) = Unit {0}
+
+-- each reading of the bytes is told, so there is one at most
+abbrev pub TellsReading : List ℕ → Result (Vec Token Global) LexErr → Type 0
+TellsReading bytes result = (tokens : List Token) → Reads bytes tokens → TellsTokens tokens result
+
+-- each first fault of the bytes is told
+abbrev pub TellsFirstFault : List ℕ → Result (Vec Token Global) LexErr → Type 0
+TellsFirstFault bytes result = (f : Fault) (at : ℕ) (before : List Token) → FailsAt bytes f at before → TellsFault f at before result

@@ -4,3 +4,4 @@ pub mod Scan
 pub mod Answers
 pub mod Load
 pub mod KnownValues
+pub mod Laws

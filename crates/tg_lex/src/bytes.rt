@@ -12,13 +12,13 @@ pub(crate) fn is_blank(byte: u8) -> bool
 pub(crate) fn is_letter(byte: u8) -> bool
     ensures { result ≡ is_letter byte }
 {
-    byte >= b'A' && byte <= b'Z' || byte >= b'a' && byte <= b'z'
+    byte.is_ascii_alphabetic()
 }
 
 pub(crate) fn is_digit(byte: u8) -> bool
     ensures { result ≡ is_digit byte }
 {
-    byte >= b'0' && byte <= b'9'
+    byte.is_ascii_digit()
 }
 
 fn is_name_byte(byte: u8) -> bool

@@ -1,6 +1,5 @@
 ghost use Rattle.std.specs.Prelude.{◌≡◌, ℕ, ◌≤◌, List, length, slice_range, All, IfOk, IfErr};
-ghost use Rattle.tg_lex.specs.declared.part.Fault.{Fault};
-ghost use Rattle.tg_lex.specs.Answers.{IsFirstFault, TellsTokens, TellsFault};
+ghost use Rattle.tg_lex.specs.Answers.{IsFirstFault, TellsReading, TellsFirstFault};
 ghost use Rattle.tg_lex.specs.Grammar.{Reads, FailsAt, IsTokenOf, Rises, value};
 
 use crate::digits::value_of;
@@ -14,11 +13,11 @@ pub fn lex(alloc: Global, bytes: &[u8]) -> Result<Vec<Token>, LexErr>
     // The tokens are those of the grammar.
     ensures ok { IfOk result (λ v. Reads bytes.now v.items) }
     // Where the grammar has tokens they are given, unless memory runs out.
-    ensures only { (tokens : List Token) → Reads bytes.now tokens → TellsTokens tokens result }
+    ensures only { TellsReading bytes.now result }
     // A fault is the first one from the left, with its place and the tokens before it.
     ensures fault { IfErr result (IsFirstFault bytes.now) }
     // Where there is a first fault it is given, unless memory runs out.
-    ensures exact { (f : Fault) (at : ℕ) (before : List Token) → FailsAt bytes.now f at before → TellsFault f at before result }
+    ensures exact { TellsFirstFault bytes.now result }
     ensures texts { IfOk result (λ v. All (IsTokenOf bytes.now) v.items) }
     ensures rise { IfOk result (λ v. Rises 0 v.items) }
 {
