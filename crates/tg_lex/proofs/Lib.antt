@@ -1,0 +1,9 @@
+pub mod Comments
+pub mod Values
+pub mod Texts
+pub mod Symbols
+pub mod Longest
+pub mod Sound
+pub mod Unique
+pub mod Runs
+pub mod Effects

@@ -1,0 +1,26 @@
+-- Laws of the grammar of tokens, over all texts.
+use Rattle.std.specs.Prelude.{◌≡◌, ℕ, List, All}
+use Rattle.tg_lex.specs.declared.token.Token.{Token}
+use Rattle.tg_lex.specs.declared.part.Fault.{Fault}
+use Rattle.tg_lex.specs.Grammar.{Reads, ReadsTo, FailsAt, IsTokenOf, Rises}
+
+-- a text has at most one list of tokens
+abbrev pub HasOneReading : Type 0
+HasOneReading = (bytes : List ℕ) (ts us : List Token) → Reads bytes ts → Reads bytes us → ts ≡ us
+
+-- a text has at most one first fault, at one place and after one list of tokens
+abbrev pub HasOneFault : Type 0
+HasOneFault = (bytes : List ℕ) (f g : Fault) (m n : ℕ) (ts us : List Token)
+    → FailsAt bytes f m ts → FailsAt bytes g n us → (f ≡ g) × (m ≡ n) × (ts ≡ us)
+
+-- a text that has tokens has no fault
+abbrev pub HasNotBoth : Type 0
+HasNotBoth = (bytes : List ℕ) (f : Fault) (at : ℕ) (ts us : List Token) → Reads bytes ts → ¬ FailsAt bytes f at us
+
+-- the tokens before a place are slices of the text of their kinds
+abbrev pub HasTexts : Type 0
+HasTexts = (bytes : List ℕ) (ts : List Token) (at : ℕ) → ReadsTo bytes ts at → All (IsTokenOf bytes) ts
+
+-- and follow one another
+abbrev pub HasRisingSpans : Type 0
+HasRisingSpans = (bytes : List ℕ) (ts : List Token) (at : ℕ) → ReadsTo bytes ts at → Rises 0 ts

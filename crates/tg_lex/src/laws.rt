@@ -1,0 +1,14 @@
+ghost use Rattle.tg_lex.specs.Laws.{HasOneReading, HasOneFault, HasNotBoth, HasTexts, HasRisingSpans};
+
+/// A text has one list of tokens or one first fault, and not both. It stands on the grammar alone.
+pub fn readings()
+    ensures one { HasOneReading }
+    ensures one_fault { HasOneFault }
+    ensures not_both { HasNotBoth }
+{}
+
+/// The tokens of a front of a text: each one's text is its slice, and they follow one another.
+pub fn fronts()
+    ensures texts { HasTexts }
+    ensures rise { HasRisingSpans }
+{}

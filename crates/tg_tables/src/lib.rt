@@ -1,0 +1,16 @@
+//! Fixed tables of names, each in the order of its bytes, and the look-up of a name in them.
+//!
+//! The reserved words and the symbols of the language are the first two tables.
+#![tactic(auto)]
+
+mod row;
+mod symbol_list;
+mod table;
+#[cfg(test)]
+mod tests;
+mod word_list;
+
+pub use row::Row;
+pub use symbol_list::{SYMBOL_COUNT, SYMBOL_ROWS, symbols};
+pub use table::Table;
+pub use word_list::{RESERVED_COUNT, RESERVED_ROWS, reserved};
