@@ -1,8 +1,7 @@
 -- The definitions keep values and truth, so what is given by them does.
-use Rattle.std.proofs.Common.{ℕ, ◌≡◌, List, ◌++◌, length, refl, subst, ◌∙◌, ap, sym}
+use Rattle.std.proofs.Common.{ℕ, ◌≡◌, List, ◌++◌, refl, subst, sym}
 use Rattle.tg_model.specs.Tree.{Tree}
 use Rattle.tg_model.specs.Formula.{Formula}
-use Rattle.tg_model.specs.Value.{Value}
 use Rattle.tg_model.specs.Denotation.{den}
 use Rattle.tg_model.specs.Walk.{lifted, substituted, instantiated, abstracted, substituted_formula, instantiated_formula, abstracted_formula}
 use Rattle.tg_model.proofs.Keeping.{lifting_keeps, substitution_keeps, instantiation_keeps, abstraction_keeps, substitution_keeps_truth, instantiation_keeps_truth, abstraction_keeps_truth}

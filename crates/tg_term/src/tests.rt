@@ -18,28 +18,47 @@ fn pair(alloc: Global, left: Term, right: Term) -> Result<Items<Term>, AllocErro
     Ok(terms)
 }
 
-/// A term with every kind of node, and within a branch of `case` within a `let` the variables `inner`,
-/// the `let`'s own one, and `outer`.
-fn every_node(alloc: Global, inner: Node, outer: Node) -> Result<Term, AllocError> {
+fn single(alloc: Global, t: Term) -> Result<Items<Term>, AllocError> {
+    let mut terms = Items::new(alloc);
+    terms.push(t)?;
+    Ok(terms)
+}
+
+/// A constructor at the sum of `inner` and the innermost variable but one, and at `outer`.
+fn made(alloc: Global, inner: Node, outer: Node) -> Result<Term, AllocError> {
     let sum = pair(alloc, term(alloc, inner)?, term(alloc, Node::Bound(1))?)?;
-    let pairs = pair(alloc, term(alloc, Node::Op(9, sum))?, term(alloc, outer)?)?;
-    let mut calls = Items::new(alloc);
-    calls.push(term(alloc, Node::Con(2, pairs))?)?;
-    let mut puts = Items::new(alloc);
-    puts.push(term(alloc, Node::Call(1, calls))?)?;
-    let mut parts = Items::new(alloc);
-    parts.push(term(alloc, Node::Truth(true))?)?;
-    parts.push(term(alloc, Node::Put(puts))?)?;
+    let arguments = pair(alloc, term(alloc, Node::Op(9, sum))?, term(alloc, outer)?)?;
+    term(alloc, Node::Con(2, arguments))
+}
+
+/// The program at a function's value.
+fn answered(alloc: Global, t: Term) -> Result<Term, AllocError> {
+    let call = term(alloc, Node::Call(1, single(alloc, t)?))?;
+    term(alloc, Node::Put(single(alloc, call)?))
+}
+
+fn chosen(alloc: Global, t: Term) -> Result<Term, AllocError> {
+    let mut parts = pair(alloc, term(alloc, Node::Truth(true))?, t)?;
     parts.push(term(alloc, Node::Lit(7))?)?;
+    term(alloc, Node::If(parts))
+}
+
+/// The cases of a number: 0 at 0, and else `body`, which has one variable more.
+fn cases(alloc: Global, body: Term) -> Result<Items<Branch>, AllocError> {
     let mut branches = Items::new(alloc);
     branches.push(Branch {
         vars: 0,
         body: term(alloc, Node::Lit(0))?,
     })?;
-    branches.push(Branch {
-        vars: 1,
-        body: term(alloc, Node::If(parts))?,
-    })?;
+    branches.push(Branch { vars: 1, body })?;
+    Ok(branches)
+}
+
+/// A term with every kind of node, and within a branch of `case` within a `let` the variables `inner`,
+/// the `let`'s own one, and `outer`.
+fn every_node(alloc: Global, inner: Node, outer: Node) -> Result<Term, AllocError> {
+    let body = chosen(alloc, answered(alloc, made(alloc, inner, outer)?)?)?;
+    let branches = cases(alloc, body)?;
     let case = term(alloc, Node::Case(0, term(alloc, Node::Bound(0))?, branches))?;
     term(alloc, Node::Let(term(alloc, Node::Lit(5))?, case))
 }
