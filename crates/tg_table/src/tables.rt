@@ -99,9 +99,10 @@ impl Table {
     /// Gives two nodes one type, by union-find over the pairs of nodes that so come to have one type. It
     /// takes near-linear time in the nodes, and no stack.
     ///
-    /// `false` comes exactly where no assignment that fits gives both nodes one type. After it, and after
-    /// an error, the nodes are as many as before, and nothing is said of what the table says of them. A
-    /// type that would hold itself is not looked for here: `settle` tells of it.
+    /// `true` leaves the assignments that fitted and gave both nodes one type, and no others. `false` comes
+    /// where types that must be one differ at their roots, so that no assignment is left. That a type would
+    /// have to hold itself is not looked for here: after `true` it is `settle` that tells whether one is left.
+    /// After `false`, and after an error, the nodes are as many as before, and nothing more is said of them.
     pub fn unite(&mut self, left: usize, right: usize) -> Result<bool, AllocError>
         requires left { left < length self.old }
         requires right { right < length self.old }

@@ -8,7 +8,8 @@ use super::joining::join;
 use super::nodes::Node;
 use std::alloc::{AllocError, Global};
 
-/// Gives two nodes one type: a node whose type is both. `false` where no type is.
+/// Gives two nodes one type. `false` where types that must be one differ at their roots, so that no
+/// assignment gives them one.
 pub(crate) fn unite(
     alloc: Global,
     nodes: &mut [Node],
