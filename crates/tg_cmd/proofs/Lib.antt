@@ -1,3 +1,4 @@
+pub mod Derivations
 pub mod KnownTexts
 pub mod Reading
 pub mod Reports

@@ -12,6 +12,7 @@ use Rattle.tg_cmd.specs.declared.form.Relation.TheVariants.{Less, LessEqual}
 use Rattle.tg_cmd.specs.Form.{Form}
 use Rattle.tg_cmd.specs.Theorem.{operator_of, constraint_at, check_at, theory_of, test_of, uniformity_of, open_class_of, conclusion_of, zero_meets, has_datum, theorem_of}
 use Rattle.tg_cmd.specs.Truths.{IsTrueTheorem}
+use Rattle.tg_cmd.proofs.Derivations.{well_typed, derivation}
 
 -- a comparison has a truth value, whatever it compares
 compared : (r : Relation) (v w : Value) → (b : Bool) × (operated (operator_of r) (v ∷ w ∷ []) ≡ boolean b)
@@ -79,6 +80,8 @@ true_at f tb (v ∷ vs) typed h = absurd typed
 
 pub true_theorem : (f : Form) → IsTrueTheorem f
 true_theorem f = record {
+  well_typed = well_typed f;
+  derivation = derivation f;
   theorem = true_at f;
   uniformity = λ tb h _. necessary f tb h;
   open_class = λ tb h. necessary f tb h;

@@ -1,4 +1,5 @@
 pub mod Closed
 pub mod Contexts
+pub mod DerivedRules
 pub mod Formed
 pub mod TrueOnTables

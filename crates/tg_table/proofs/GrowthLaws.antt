@@ -11,7 +11,7 @@ use Rattle.tg_types.specs.declared.types.Ty as declared
 use Rattle.tg_types.specs.Types.{ty, types}
 use Rattle.tg_types.specs.Substitutions.{Assignment}
 use Rattle.tg_table.specs.declared.nodes.Node.{Node}
-use Rattle.tg_table.specs.declared.nodes.Node.TheVariants.{Open, Nat, Bool, Param, App}
+use Rattle.tg_table.specs.declared.nodes.Node.TheVariants.{Open, Nat, Bool, App}
 use Rattle.tg_table.specs.Nodes.{types_of, Says, node_at, Fits, AreBelow, Names, IsTable}
 use Rattle.tg_table.specs.Growth.{Grows, IsDeclared, AreDeclared, Plants, PlantsAll}
 use Rattle.tg_table.proofs.NodeLaws.{pushed_old, pushed_new, pushed_length}
@@ -116,11 +116,11 @@ module _ (old : List Node) (given : List ℕ) (table : IsTable old) where
   if_bool new (Err x) e f = tt
 
   pub if_parameter : {E : Type 0} (n : ℕ) (new : List Node) (r : Result ℕ E) →
-      ((ρ : Assignment) → model.parameter n ≡ instance (listed (types_of ρ given)) (model.parameter n)) →
-      IfOk r (λ at. new ≡ old ++ Param n ∷ []) → IfOk r (λ at. at ≡ length old) → IfOk r (λ at. Plants old given (model.parameter n) new at)
+      ((ρ : Assignment) → model.nat ≡ instance (listed (types_of ρ given)) (model.parameter n)) →
+      IfOk r (λ at. new ≡ old ++ Nat ∷ []) → IfOk r (λ at. at ≡ length old) → IfOk r (λ at. Plants old given (model.parameter n) new at)
   if_parameter n new (Ok at) same e f =
-      written old (Param n) (model.parameter n) new at
-      (planted old (Param n) (model.parameter n) table (grows_itself old) tt (λ o. cc) (λ ρ g s. s ∙ same ρ)) e f
+      written old Nat (model.parameter n) new at
+      (planted old Nat (model.parameter n) table (grows_itself old) tt (λ o. cc) (λ ρ g s. s ∙ same ρ)) e f
   if_parameter n new (Err x) same e f = tt
 
   pub if_applied : {E : Type 0} (d : ℕ) (ts : model.Tys) (mid : List Node) (ks : List ℕ) (new : List Node) (r : Result ℕ E) → IsTable mid →
@@ -146,14 +146,14 @@ type_at ρ [] i k h e = absurd (omega (arith, h))
 type_at ρ (l ∷ ks) zero k h e = ap (λ x. Some (ρ x)) (sym e)
 type_at ρ (l ∷ ks) (suc i) k h e = type_at ρ ks i k (omega (arith, h)) e
 
-pub parameter_zero : (ρ : Assignment) (given : List ℕ) (n : ℕ) → n ≡ 0 → model.parameter n ≡ instance (listed (types_of ρ given)) (model.parameter n)
+pub parameter_zero : (ρ : Assignment) (given : List ℕ) (n : ℕ) → n ≡ 0 → model.nat ≡ instance (listed (types_of ρ given)) (model.parameter n)
 parameter_zero ρ given zero e = refl
 parameter_zero ρ given (suc n) e = absurd (omega (arith, e))
 
 pub parameter_past : (ρ : Assignment) (given : List ℕ) (n : ℕ) → length given < n →
-    model.parameter n ≡ instance (listed (types_of ρ given)) (model.parameter n)
+    model.nat ≡ instance (listed (types_of ρ given)) (model.parameter n)
 parameter_past ρ given zero h = refl
-parameter_past ρ given (suc n) h = ap (λ o. unwrap_or o (model.parameter (suc n))) (sym (type_past ρ given n (omega (arith, h))))
+parameter_past ρ given (suc n) h = ap (λ o. unwrap_or o model.nat) (sym (type_past ρ given n (omega (arith, h))))
 
 below_at : (n : ℕ) (ks : List ℕ) (i k : ℕ) → AreBelow n ks → i < length ks → k ≡ get_or ks i k → k < n
 below_at n [] i k b h e = absurd (omega (arith, h))
@@ -176,7 +176,7 @@ given_parameter ns given (suc n) b z h =
     subst (λ x. Plants ns given (model.parameter (suc n)) ns (get_or given x 0)) p (record {
       grows = grows_itself ns;
       inside = below_at (length ns) given n k b i q;
-      reads = λ ρ f. ap (λ o. unwrap_or o (model.parameter (suc n))) (sym (type_at ρ given n k i q));
+      reads = λ ρ f. ap (λ o. unwrap_or o model.nat) (sym (type_at ρ given n k i q));
     })
 
 -- lists of types, one longer

@@ -11,7 +11,7 @@ use std::alloc::{AllocError, Global};
 use tg_types::Ty;
 
 /// Adds the nodes of a declared type, and gives its node. The parameter of number n is the n-th node of
-/// `given`, or stays a parameter where there is no such node.
+/// `given`, or nat where there is no such node.
 #[cycle(plant)]
 pub(crate) fn plant(
     alloc: Global,
@@ -69,10 +69,10 @@ fn plant_parameter(nodes: &mut Vec<Node>, given: &[usize], number: u32) -> Resul
 {
     let place = number as usize;
     if place == 0 {
-        return push(nodes, Node::Param(number));
+        return push(nodes, Node::Nat);
     }
     if given.len() < place {
-        return push(nodes, Node::Param(number));
+        return push(nodes, Node::Nat);
     }
     Ok(given[place - 1])
 }

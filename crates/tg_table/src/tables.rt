@@ -66,7 +66,7 @@ impl Table {
     }
 
     /// Adds the nodes of a declared type, and gives its node. The parameter of number n is the n-th node of
-    /// `given`, or stays a parameter where there is no such node. After an error the table may have nodes
+    /// `given`, or nat where there is no such node. After an error the table may have nodes
     /// more, and nothing is said of what it says of them.
     pub fn plant(&mut self, given: &[usize], t: &Ty) -> Result<usize, AllocError>
         requires given { AreBelow (length self.old) given.now }
