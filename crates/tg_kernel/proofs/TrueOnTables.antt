@@ -2,10 +2,10 @@
 use Rattle.std.proofs.Common.{ℕ, zero, suc, ◌≡◌, ◌+◌, Bool, true, false, not, ◌||◌, List, [], ◌∷◌, ◌++◌, length, Some, refl, sym, ◌∙◌, ap, subst, inl, inr, arith, ◌↔◌}
 use Rattle.std.proofs.lemmas.Bool.{lt-ltb, le-leb}
 use Rattle.std.proofs.lemmas.Option.{slice_get_within}
-use Rattle.tg_model.specs.Tree.{Tree, op, one, truth, equality, negation, implication}
+use Rattle.tg_model.specs.Tree.{Tree, bound, free, op, one, truth, equality, negation, implication}
 use Rattle.tg_model.specs.Types.{Ty, bool, tys}
 use Rattle.tg_model.specs.Value.{Value, boolean, same_value, same_truth}
-use Rattle.tg_model.specs.Formula.{Formula, atom}
+use Rattle.tg_model.specs.Formula.{Formula, atom, all}
 use Rattle.tg_model.specs.Theory.{Theory, numbered, AreClosed}
 use Rattle.tg_model.specs.Typing.{AreTyped}
 use Rattle.tg_model.specs.Table.{Table, IsTable}
@@ -22,7 +22,7 @@ use Rattle.tg_model.proofs.Keeping.{instantiation_keeps_truth, abstraction_keeps
 use Rattle.tg_kernel.specs.Hypotheses.{IsIn, AreSame, AreWithout}
 use Rattle.tg_kernel.specs.Rows.{Row, imp_true_l, imp_false_l, eq_true_r, eq_true_l, eq_false_r, eq_false_l}
 use Rattle.tg_kernel.specs.Derivation.{Derives, Computes, less_literals, less_equal_literals, hyp, grow, and_i, and_l, and_r, imp_i, mp, all_i, all_e, ex_i, thyp_e, truth_i, split, sym as symmetry, replace, schema, compute}
-use Rattle.tg_kernel.specs.Laws.{IsSound, IsConsistent}
+use Rattle.tg_kernel.specs.Laws.{IsSound, IsConsistent, IsVariableKept}
 use Rattle.tg_kernel.proofs.Contexts.{used_in_formula}
 use Rattle.tg_kernel.proofs.Closed.{closed_value, replaced_truth}
 use Rattle.tg_kernel.proofs.Formed.{formed, in_left, in_right, at_end, elsewhere, unused_in, operands}
@@ -225,3 +225,9 @@ is_sound th wt vars hs f d tb table env typed given = sound th wt tb table d env
 
 pub is_consistent : IsConsistent
 is_consistent th wt d = let e : boolean false ≡ boolean true = is_sound th wt [] [] (atom (truth false)) d [] tt [] tt tt in cc
+
+pub is_variable_kept : IsVariableKept
+is_variable_kept th wt d =
+    let holds : Holds th [] (boolean true ∷ []) [] (all bool (atom (bound 0))) =
+    is_sound th wt (bool ∷ []) (atom (free 1) ∷ []) (all bool (atom (bound 0))) d [] tt (boolean true ∷ []) (refl, tt) (refl, tt) in
+    let e : boolean false ≡ boolean true = holds (boolean false) refl in cc

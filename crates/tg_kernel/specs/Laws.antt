@@ -1,8 +1,8 @@
 -- The laws of the calculus.
-use Rattle.std.specs.Prelude.{List, [], false}
-use Rattle.tg_model.specs.Tree.{truth}
-use Rattle.tg_model.specs.Types.{Ty, tys}
-use Rattle.tg_model.specs.Formula.{Formula, atom}
+use Rattle.std.specs.Prelude.{List, [], ◌∷◌, false}
+use Rattle.tg_model.specs.Tree.{bound, free, truth}
+use Rattle.tg_model.specs.Types.{Ty, bool, tys}
+use Rattle.tg_model.specs.Formula.{Formula, atom, all}
 use Rattle.tg_model.specs.Theory.{Theory, AreClosed}
 use Rattle.tg_model.specs.Table.{Table, IsTable}
 use Rattle.tg_model.specs.Truth.{IsTrueOn}
@@ -30,3 +30,8 @@ IsSound = (th : Theory) → IsWellTyped th → (vars : List Ty) (hs : List Formu
 -- In a well-typed theory False isn't derivable.
 abbrev pub IsConsistent : Type 0
 IsConsistent = (th : Theory) → IsWellTyped th → ¬ Derives th [] [] (atom (truth false))
+
+-- From `?1`, a truth value, it isn't derivable that all truth values are True: a variable of a hypothesis can't be
+-- generalised.
+abbrev pub IsVariableKept : Type 0
+IsVariableKept = (th : Theory) → IsWellTyped th → ¬ Derives th (bool ∷ []) (atom (free 1) ∷ []) (all bool (atom (bound 0)))
