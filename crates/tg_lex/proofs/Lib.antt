@@ -7,3 +7,4 @@ pub mod Sound
 pub mod Unique
 pub mod Runs
 pub mod Effects
+pub mod Ends

@@ -1,8 +1,15 @@
 -- Laws of the grammar of tokens, over all texts.
-use Rattle.std.specs.Prelude.{◌≡◌, ℕ, List, All}
+use Rattle.std.specs.Prelude.{◌≡◌, ◌⊎◌, ℕ, List, All}
 use Rattle.tg_lex.specs.declared.token.Token.{Token}
 use Rattle.tg_lex.specs.declared.part.Fault.{Fault}
 use Rattle.tg_lex.specs.Grammar.{Reads, ReadsTo, FailsAt, IsTokenOf, Rises}
+
+-- a text has tokens or a first fault
+abbrev pub IsReadOrFails : List ℕ → Type 0
+IsReadOrFails bytes = ((ts : List Token) × Reads bytes ts) ⊎ ((f : Fault) × (at : ℕ) × (ts : List Token) × FailsAt bytes f at ts)
+
+abbrev pub HasReadingOrFault : Type 0
+HasReadingOrFault = (bytes : List ℕ) → IsReadOrFails bytes
 
 -- a text has at most one list of tokens
 abbrev pub HasOneReading : Type 0

@@ -1,7 +1,8 @@
-ghost use Rattle.tg_lex.specs.Laws.{HasOneReading, HasOneFault, HasNotBoth, HasTexts, HasRisingSpans};
+ghost use Rattle.tg_lex.specs.Laws.{HasReadingOrFault, HasOneReading, HasOneFault, HasNotBoth, HasTexts, HasRisingSpans};
 
 /// A text has one list of tokens or one first fault, and not both. It stands on the grammar alone.
 pub fn readings()
+    ensures some { HasReadingOrFault }
     ensures one { HasOneReading }
     ensures one_fault { HasOneFault }
     ensures not_both { HasNotBoth }
