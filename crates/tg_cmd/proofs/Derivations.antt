@@ -1,5 +1,5 @@
 -- The test theorem of a form has a derivation.
-use Rattle.std.proofs.Common.{ℕ, zero, suc, Some, None, ◌≡◌, ◌≢◌, ◌<◌, Bool, true, false, List, [], ◌∷◌, refl, sym, ◌∙◌, ◌⊎◌, inl, inr, arith, nat_lt, if◌then◌else◌}
+use Rattle.std.proofs.Common.{ℕ, zero, suc, Some, None, ◌≡◌, ◌≢◌, ◌<◌, Bool, true, false, List, [], ◌∷◌, refl, sym, ◌∙◌, ◌⊎◌, inl, inr, arith, nat_lt}
 use Rattle.tg_model.specs.Tree.{Tree, bound, free, literal, put, op, one, two, implication}
 use Rattle.tg_model.specs.Types.{Ty, nat, bool}
 use Rattle.tg_model.specs.Formula.{Formula, atom, both, implies, some, tested}
@@ -12,7 +12,7 @@ use Rattle.tg_kernel.proofs.DerivedRules.{same_list, two_typed, assumed, interna
 use Rattle.tg_cmd.specs.declared.form.Relation.{Relation}
 use Rattle.tg_cmd.specs.declared.form.Relation.TheVariants.{Less, LessEqual}
 use Rattle.tg_cmd.specs.Form.{Form}
-use Rattle.tg_cmd.specs.Theorem.{operator_of, constraint_at, check_at, theory_of, test_of, uniformity_of, open_class_of, conclusion_of, zero_meets, has_datum, theorem_of}
+use Rattle.tg_cmd.specs.Theorem.{operator_of, constraint_at, check_at, theory_of, test_of, uniformity_of, open_class_of, conclusion_of, meets, has_datum, theorem_of}
 
 is_comparison : (r : Relation) → IsOperation (operator_of r) (nat ∷ nat ∷ []) bool
 is_comparison Less = (refl, refl)
@@ -21,7 +21,7 @@ is_comparison LessEqual = (refl, refl)
 below : (n : ℕ) → nat_lt 0 n ≡ true → 0 < n
 below n e = grind arith
 
-zero_computes : (r : Relation) (limit : ℕ) → zero_meets r limit ≡ true → Computes (op (operator_of r) (two (literal 0) (literal limit)))
+zero_computes : (r : Relation) (limit : ℕ) → meets r 0 limit ≡ true → Computes (op (operator_of r) (two (literal 0) (literal limit)))
 zero_computes Less limit e = less_literals 0 limit (below limit e)
 zero_computes LessEqual limit e = less_equal_literals 0 limit (omega arith)
 
@@ -147,13 +147,10 @@ module _ (f : Form) where
           back = λ g i. absurd i;
         }
 
-  either : (b : Bool) → has_datum f ≡ b
-      → Derives th [] (if b then test_of f ∷ uniformity_of f ∷ [] else open_class_of f ∷ []) (conclusion_of f)
-  either true datum = from_test datum
-  either false datum = from_open
-
-pub derivation : (f : Form) → Derives (theory_of f) [] (theorem_of f).hypotheses (theorem_of f).goal
-derivation f = either f (has_datum f) refl
+-- a class is tested only where it has a datum
+pub derivation : (f : Form) (b : Bool) → (b ≡ true → has_datum f ≡ true) → Derives (theory_of f) [] (theorem_of f b).hypotheses (theorem_of f b).goal
+derivation f true datum = from_test f (datum refl)
+derivation f false datum = from_open f
 
 pub well_typed : (f : Form) → IsWellTyped (theory_of f)
 well_typed f = record {

@@ -34,7 +34,7 @@ class_opened f =
     ∙ class_by f.name f.program f.variable f.constraint f.limit f.check
 
 abbrev pub test_parts : List ℕ → List ℕ → List ℕ → List ℕ → ℕ → List ℕ → List ℕ
-test_parts zero one p c l k = codes "datum 0\ntheorem\ntest 1 ((tested " ++ (zero ++ (codes ") & [(" ++ (zero ++ (codes " " ++ (k ++ (codes " (" ++ (p ++ (codes " " ++ (zero ++ (codes "))])\nuniformity 1 (THYP ((EX nat. ((tested !" ++ (one ++ (codes ") & ([(!" ++ (one ++ (codes " " ++ (c ++ (codes " " ++ (decimal l ++ (codes ")] & [(!" ++ (one ++ (codes " " ++ (k ++ (codes " (" ++ (p ++ (codes " !" ++ (one ++ (codes "))]))) --> (ALL nat. ((tested !" ++ (one ++ (codes ") --> ([(!" ++ (one ++ (codes " " ++ (c ++ (codes " " ++ (decimal l ++ (codes ")] --> [(!" ++ (one ++ (codes " " ++ (k ++ (codes " (" ++ (p ++ (codes " !" ++ (one ++ (codes "))])))))\n"))))))))))))))))))))))))))))))))))))))))))
+test_parts zero one p c l k = codes "theorem\ntest 1 ((tested " ++ (zero ++ (codes ") & [(" ++ (zero ++ (codes " " ++ (k ++ (codes " (" ++ (p ++ (codes " " ++ (zero ++ (codes "))])\nuniformity 1 (THYP ((EX nat. ((tested !" ++ (one ++ (codes ") & ([(!" ++ (one ++ (codes " " ++ (c ++ (codes " " ++ (decimal l ++ (codes ")] & [(!" ++ (one ++ (codes " " ++ (k ++ (codes " (" ++ (p ++ (codes " !" ++ (one ++ (codes "))]))) --> (ALL nat. ((tested !" ++ (one ++ (codes ") --> ([(!" ++ (one ++ (codes " " ++ (c ++ (codes " " ++ (decimal l ++ (codes ")] --> [(!" ++ (one ++ (codes " " ++ (k ++ (codes " (" ++ (p ++ (codes " !" ++ (one ++ (codes "))])))))\n"))))))))))))))))))))))))))))))))))))))))))
 
 test_by : (n p v : List ℕ) (c : Relation) (l : ℕ) (k : Relation)
     → test_parts (decimal 0) (decimal 1) p (sign c) l (sign k) ≡ test_text (form n p v c l k)
@@ -51,7 +51,7 @@ test_opened f =
     ∙ test_by f.name f.program f.variable f.constraint f.limit f.check
 
 abbrev pub open_parts : List ℕ → List ℕ → List ℕ → List ℕ → ℕ → List ℕ → List ℕ
-open_parts zero one p c l k = codes "open\ntheorem\nopen 1 (ALL nat. ((tested !" ++ (one ++ (codes ") --> ([(!" ++ (one ++ (codes " " ++ (c ++ (codes " " ++ (decimal l ++ (codes ")] --> [(!" ++ (one ++ (codes " " ++ (k ++ (codes " (" ++ (p ++ (codes " !" ++ (one ++ (codes "))])))\n"))))))))))))))))
+open_parts zero one p c l k = codes "theorem\nopen 1 (ALL nat. ((tested !" ++ (one ++ (codes ") --> ([(!" ++ (one ++ (codes " " ++ (c ++ (codes " " ++ (decimal l ++ (codes ")] --> [(!" ++ (one ++ (codes " " ++ (k ++ (codes " (" ++ (p ++ (codes " !" ++ (one ++ (codes "))])))\n"))))))))))))))))
 
 open_by : (n p v : List ℕ) (c : Relation) (l : ℕ) (k : Relation)
     → open_parts (decimal 0) (decimal 1) p (sign c) l (sign k) ≡ open_text (form n p v c l k)

@@ -101,24 +101,31 @@ premise_of ps = do
   rest ← after (codes "-->") limit.1
   Some (record { variable = variable.0; left = left.0; constraint = constraint.0; limit = limit.0 }, rest)
 
--- `LEFT CHECK CALLED ARGUMENT end`, and nothing after it
-unfoldable pub conclusion_of : List (List ℕ) → Option Conclusion
+-- `LEFT CHECK CALLED ARGUMENT end`, and what follows it
+unfoldable pub conclusion_of : List (List ℕ) → Option (Conclusion × List (List ℕ))
 conclusion_of ps = do
   left ← first_piece ps
   check ← first_piece left.1
   called ← first_piece check.1
   argument ← first_piece called.1
   rest ← after (codes "end") argument.1
-  done ← at_end rest
-  Some (record { left = left.0; check = check.0; called = called.0; argument = argument.0 })
+  Some (record { left = left.0; check = check.0; called = called.0; argument = argument.0 }, rest)
 
-unfoldable pub parts_of : List (List ℕ) → Option Parts
+-- a theory, and what follows it
+unfoldable pub parts_of : List (List ℕ) → Option (Parts × List (List ℕ))
 parts_of ps = do
   name ← header_of ps
   program ← program_of name.1
   premised ← premise_of program.1
   concluded ← conclusion_of premised.1
-  Some (record { name = name.0; program = program.0; premise = premised.0; conclusion = concluded })
+  Some (record { name = name.0; program = program.0; premise = premised.0; conclusion = concluded.0 }, concluded.1)
+
+-- a theory, and nothing after it
+unfoldable pub whole_of : List (List ℕ) → Option Parts
+whole_of ps = do
+  read ← parts_of ps
+  done ← at_end read.1
+  Some read.0
 
 -- the names are words, and the pieces that repeat the variable and the program do so
 pub record HasNames (p : Parts) : Type 0 where

@@ -1,5 +1,6 @@
 pub mod Answers
 pub mod Form
+pub mod Outcomes
 pub mod Output
 pub mod Parts
 pub mod Pieces
@@ -7,4 +8,5 @@ pub mod Report
 pub mod Text
 pub mod Theorem
 pub mod Truths
+pub mod Verdicts
 pub mod Words

@@ -1,4 +1,6 @@
--- What contracts see of the parts and the form that the code reads.
+-- What contracts see of the pieces, the parts and the form that the code reads.
+use Rattle.std.specs.Prelude.{ℕ, List, Option, option_map}
+use denote.Ref.{Bor}
 use Rattle.tg_cmd.specs.declared.form.Premise.{Premise}
 use Rattle.tg_cmd.specs.declared.form.Conclusion.{Conclusion}
 use Rattle.tg_cmd.specs.declared.form.Parts.{Parts}
@@ -16,3 +18,7 @@ parts_view p = record { name = p.name.now; program = p.program.now; premise = pr
 
 abbrev pub form_view : Form → spec.Form
 form_view f = record { name = f.name.now; program = f.program.now; variable = f.variable.now; constraint = f.constraint; limit = f.limit; check = f.check }
+
+-- a piece that may be missing
+abbrev pub piece_view : Option (Bor (List ℕ)) → Option (List ℕ)
+piece_view o = option_map (λ p. p.now) o

@@ -1,5 +1,5 @@
 -- The theory that a form states, its one class, and the test theorem with its hypotheses.
-use Rattle.std.specs.Prelude.{ℕ, Bool, true, nat_lt, [], ◌∷◌, if◌then◌else◌}
+use Rattle.std.specs.Prelude.{ℕ, Bool, true, false, nat_lt, nat_le, List, [], ◌∷◌}
 use Rattle.tg_model.specs.Tree.{Tree, bound, free, literal, put, op, one, two, Operator, less, less_equal, implication}
 use Rattle.tg_model.specs.Types.{nat}
 use Rattle.tg_model.specs.Formula.{Formula, atom, both, implies, all, some, thyp, tested, Sequent}
@@ -52,18 +52,29 @@ uniformity_of f =
 abbrev pub conclusion_of : Form → Formula
 conclusion_of f = all nat (implies (tested (one (bound 0))) (atom (specification_at f (bound 0))))
 
--- The datum is 0, unless the constraint is `x < 0`, which no natural meets.
-abbrev pub zero_meets : Relation → ℕ → Bool
-zero_meets Less limit = nat_lt 0 limit
-zero_meets LessEqual limit = true
+-- `m` stands in the relation to `n`
+abbrev pub meets : Relation → ℕ → ℕ → Bool
+meets Less m n = nat_lt m n
+meets LessEqual m n = nat_le m n
 
+-- The datum is 0 where it meets the constraint. Else the constraint is `x < 0`, and no natural is a datum.
 abbrev pub has_datum : Form → Bool
-has_datum f = zero_meets f.constraint f.limit
+has_datum f = meets f.constraint 0 f.limit
 
--- The theorem: from the test and the uniformity of a class with a datum, or from the open class, the specification.
-abbrev pub theorem_of : Form → Sequent
-theorem_of f = record {
+-- The hypotheses of the theorem: of a tested class the test and the uniformity, of another the open class.
+abbrev pub hypotheses_of : Form → Bool → List Formula
+hypotheses_of f true = test_of f ∷ uniformity_of f ∷ []
+hypotheses_of f false = open_class_of f ∷ []
+
+-- those that no recorded answer shows
+abbrev pub assumptions_of : Form → Bool → List Formula
+assumptions_of f true = uniformity_of f ∷ []
+assumptions_of f false = open_class_of f ∷ []
+
+-- The theorem: from the hypotheses, the specification.
+abbrev pub theorem_of : Form → Bool → Sequent
+theorem_of f with_test = record {
   vars = [];
-  hypotheses = if has_datum f then test_of f ∷ uniformity_of f ∷ [] else open_class_of f ∷ [];
+  hypotheses = hypotheses_of f with_test;
   goal = conclusion_of f;
 }

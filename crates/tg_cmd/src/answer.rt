@@ -6,6 +6,8 @@ ghost use Rattle.tg_cmd.specs.Answers.{status_of, line_of};
 pub enum Answer {
     /// The whole result was written.
     Done,
+    /// The whole report was written, and a test is judged failed.
+    TestsFailed,
     /// The words aren't those of a command. Nothing was read or written.
     Usage,
     /// The source failed. Nothing was written.
@@ -24,17 +26,26 @@ pub enum Answer {
 /// Why an input was refused.
 #[derive(Clone, Copy, Debug, PartialEq, Eq)]
 pub enum Refusal {
-    /// The input is longer than 1,000 bytes, or no theory of the form that is read so far.
+    /// The input is longer than 1,000 bytes, or not of the form that is read so far.
     Early,
 }
 
+/// How a run ends whose output was written.
+#[derive(Clone, Copy, Debug, PartialEq, Eq)]
+pub(crate) enum Ending {
+    Done,
+    TestsFailed,
+    Refused(Refusal),
+}
+
 impl Answer {
-    /// The exit status: 0 `Done`, 2 `Usage`, 3 `ReadFault`, 4 `WriteFault`, 5 `Memory`, 6 `Refused`.
+    /// The exit status: 0 `Done`, 1 `TestsFailed`, 2 `Usage`, 3 `ReadFault`, 4 `WriteFault`, 5 `Memory`, 6 `Refused`.
     pub fn status(&self) -> u8
         ensures { result ≡ status_of self.now }
     {
         match self {
             Answer::Done => 0,
+            Answer::TestsFailed => 1,
             Answer::Usage => 2,
             Answer::ReadFault => 3,
             Answer::WriteFault { .. } => 4,

@@ -1,5 +1,5 @@
 ghost use Rattle.std.specs.Prelude.{◌≡◌, ◌≢◌, ◌++◌, ◌<◌, ◌^◌, ◌↔◌, IsTrue, IfOk, MatchOption, option_map, codes, decimal};
-ghost use Rattle.tg_cmd.specs.Form.{header_of, program_of, premise_of, conclusion_of, parts_of, sign, are_names, HasNames, Repeats, HasParts, Reads};
+ghost use Rattle.tg_cmd.specs.Form.{header_of, program_of, premise_of, conclusion_of, parts_of, whole_of, sign, are_names, HasNames, Repeats, HasParts, Reads};
 ghost use Rattle.tg_cmd.specs.Parts.{premise_view, conclusion_view, parts_view, form_view};
 ghost use Rattle.tg_cmd.specs.Pieces.{texts};
 
@@ -62,13 +62,13 @@ pub(crate) fn read_form(alloc: Global, bytes: &[u8]) -> Result<Option<Form<'_>>,
     ensures { IfOk result (λ o. MatchOption o ((f : _) → Reads bytes.now f → ⊥) (λ f. Reads bytes.now (form_view f))) }
 {
     let pieces = pieces(alloc, bytes)?;
-    match read_parts(pieces.as_slice()) {
+    match read_whole(pieces.as_slice()) {
         Some(parts) => Ok(form_of(&parts)),
         None => Ok(None),
     }
 }
 
-fn form_of<'a>(parts: &Parts<'a>) -> Option<Form<'a>>
+pub(crate) fn form_of<'a>(parts: &Parts<'a>) -> Option<Form<'a>>
     ensures { MatchOption result ((f : _) → HasParts (parts_view parts.now) f → ⊥) (λ f. HasParts (parts_view parts.now) (form_view f)) }
 {
     if !has_names(parts) || !repeats(parts) {
@@ -132,7 +132,7 @@ fn read_relation(text: &[u8]) -> Option<Relation>
 }
 
 /// A number below 10^18, with no zero in front: it is read and written again.
-fn read_limit(text: &[u8]) -> Option<u64>
+pub(crate) fn read_limit(text: &[u8]) -> Option<u64>
     ensures { MatchOption result ((n : _) → n < 10 ^ 18 → text.now ≢ decimal n) (λ n. (n < 10 ^ 18) × (text.now ≡ decimal n)) }
 {
     let number = read_number(text)?;
@@ -153,20 +153,31 @@ fn read_number(text: &[u8]) -> Option<u64>
 }
 
 /// The parts of the one form whose pieces these are, if there is one.
+#[tactic(auto, unfolding(crate::specs::Form::whole_of))]
+fn read_whole<'a>(pieces: &[&'a [u8]]) -> Option<Parts<'a>>
+    ensures { option_map parts_view result ≡ whole_of (texts pieces.now) }
+{
+    let (parts, rest) = read_parts(pieces)?;
+    at_end(rest)?;
+    Some(parts)
+}
+
+/// The parts of the one form that these pieces begin with, and what follows it.
 #[tactic(auto, unfolding(crate::specs::Form::parts_of))]
-fn read_parts<'a>(pieces: &[&'a [u8]]) -> Option<Parts<'a>>
-    ensures { option_map parts_view result ≡ parts_of (texts pieces.now) }
+pub(crate) fn read_parts<'p, 'a>(pieces: &'p [&'a [u8]]) -> Option<(Parts<'a>, &'p [&'a [u8]])>
+    ensures { option_map (λ p. (parts_view p.0, texts p.1.now)) result ≡ parts_of (texts pieces.now) }
 {
     let (name, rest) = read_header(pieces)?;
     let (program, rest) = read_program(rest)?;
     let (premise, rest) = read_premise(rest)?;
-    let conclusion = read_conclusion(rest)?;
-    Some(Parts {
+    let (conclusion, rest) = read_conclusion(rest)?;
+    let parts = Parts {
         name,
         program,
         premise,
         conclusion,
-    })
+    };
+    Some((parts, rest))
 }
 
 /// `theory NAME version 1 begin`, and what follows it.
@@ -217,21 +228,21 @@ fn read_premise<'p, 'a>(pieces: &'p [&'a [u8]]) -> Option<(Premise<'a>, &'p [&'a
     Some((premise, rest))
 }
 
-/// `LEFT CHECK CALLED ARGUMENT end`, and nothing after it.
+/// `LEFT CHECK CALLED ARGUMENT end`, and what follows it.
 #[tactic(auto, unfolding(crate::specs::Form::conclusion_of))]
-fn read_conclusion<'a>(pieces: &[&'a [u8]]) -> Option<Conclusion<'a>>
-    ensures { option_map conclusion_view result ≡ conclusion_of (texts pieces.now) }
+fn read_conclusion<'p, 'a>(pieces: &'p [&'a [u8]]) -> Option<(Conclusion<'a>, &'p [&'a [u8]])>
+    ensures { option_map (λ p. (conclusion_view p.0, texts p.1.now)) result ≡ conclusion_of (texts pieces.now) }
 {
     let (left, rest) = first_piece(pieces)?;
     let (check, rest) = first_piece(rest)?;
     let (called, rest) = first_piece(rest)?;
     let (argument, rest) = first_piece(rest)?;
     let rest = after(rest, b"end")?;
-    at_end(rest)?;
-    Some(Conclusion {
+    let conclusion = Conclusion {
         left,
         check,
         called,
         argument,
-    })
+    };
+    Some((conclusion, rest))
 }

@@ -7,6 +7,58 @@ use tg_types::Name;
 const INC: &[u8] =
     b"theory Inc version 1 begin program put :: nat => nat; spec x . x < 3 --> x < put x; end";
 
+const NOTHING_RECORDED: &[u8] =
+    b"\noutcomes depth 3 bound 8 seed 1 tries 1000 width 16 begin\nend\n";
+
+const ANSWERED_0: &[u8] =
+    b"\noutcomes depth 3 bound 8 seed 1 tries 1000 width 16 begin\nanswer 1 0;\nend\n";
+
+const ANSWERED_1: &[u8] =
+    b"\noutcomes depth 3 bound 8 seed 1 tries 1000 width 16 begin\nanswer 1 1;\nend\n";
+
+const PASSED_REPORT: &[u8] = b"testgen Inc
+settings depth 3 bound 8 seed 1 tries 1000 width 16
+class 1
+pattern ?1
+constraint (?1 < 3)
+check (?1 < (put ?1))
+datum 0
+verdict passed
+theorem
+test 1 ((tested 0) & [(0 < (put 0))])
+uniformity 1 (THYP ((EX nat. ((tested !1) & ([(!1 < 3)] & [(!1 < (put !1))]))) --> (ALL nat. ((tested !1) --> ([(!1 < 3)] --> [(!1 < (put !1))])))))
+conclusion (ALL nat. ((tested !1) --> [((!1 < 3) --> (!1 < (put !1)))]))
+passed 1 failed 0 undecided 0 raised 0 missing 0 open 0
+";
+
+const FAILED_REPORT: &[u8] = b"testgen Inc
+settings depth 3 bound 8 seed 1 tries 1000 width 16
+class 1
+pattern ?1
+constraint (?1 < 3)
+check (?1 < (put ?1))
+datum 0
+verdict failed
+theorem
+open 1 (ALL nat. ((tested !1) --> ([(!1 < 3)] --> [(!1 < (put !1))])))
+conclusion (ALL nat. ((tested !1) --> [((!1 < 3) --> (!1 < (put !1)))]))
+passed 0 failed 1 undecided 0 raised 0 missing 0 open 0
+";
+
+const MISSING_REPORT: &[u8] = b"testgen Inc
+settings depth 3 bound 8 seed 1 tries 1000 width 16
+class 1
+pattern ?1
+constraint (?1 < 3)
+check (?1 < (put ?1))
+datum 0
+verdict missing
+theorem
+open 1 (ALL nat. ((tested !1) --> ([(!1 < 3)] --> [(!1 < (put !1))])))
+conclusion (ALL nat. ((tested !1) --> [((!1 < 3) --> (!1 < (put !1)))]))
+passed 0 failed 0 undecided 0 raised 0 missing 1 open 0
+";
+
 /// The run of one word on an input, with the calls of the source and of the sink that fail. The source
 /// gives at most 7 bytes a call, and the sink takes at most 10.
 fn run_failing(
@@ -127,9 +179,95 @@ fn faults_are_answered_as_such(rt: HostRuntime) -> Result<(), Fail> {
     Ok(())
 }
 
+/// What `judge` answers of the theory and the outcomes.
+fn judged(alloc: Global, theory: &[u8], outcomes: &[u8]) -> Result<(Answer, MemSink), AllocError> {
+    let mut input = Vec::from_slice(alloc, theory)?;
+    input.extend_from_slice(outcomes)?;
+    run_whole(alloc, b"judge", input.as_slice())
+}
+
+#[test]
+fn an_answer_that_meets_the_check_passes(rt: HostRuntime) -> Result<(), Fail> {
+    let (answer, sink) = judged(rt.alloc(), INC, ANSWERED_1)?;
+    assert_eq!(rt; answer, Answer::Done);
+    assert_eq!(rt; sink.bytes(), PASSED_REPORT);
+    Ok(())
+}
+
+#[test]
+fn an_answer_that_does_not_meet_the_check_fails(rt: HostRuntime) -> Result<(), Fail> {
+    let (answer, sink) = judged(rt.alloc(), INC, ANSWERED_0)?;
+    assert_eq!(rt; answer, Answer::TestsFailed);
+    assert_eq!(rt; answer.status(), 1);
+    assert_eq!(rt; sink.bytes(), FAILED_REPORT);
+    Ok(())
+}
+
+#[test]
+fn without_an_answer_the_test_is_missing(rt: HostRuntime) -> Result<(), Fail> {
+    let (answer, sink) = judged(rt.alloc(), INC, NOTHING_RECORDED)?;
+    assert_eq!(rt; answer, Answer::Done);
+    assert_eq!(rt; sink.bytes(), MISSING_REPORT);
+    Ok(())
+}
+
+#[test]
+fn at_most_is_met_by_equal_numbers(rt: HostRuntime) -> Result<(), Fail> {
+    let theory =
+        b"theory Inc version 1 begin program put :: nat => nat; spec x . x < 3 --> x <= put x; end";
+    let (answer, _) = judged(rt.alloc(), theory, ANSWERED_0)?;
+    assert_eq!(rt; answer, Answer::Done);
+    Ok(())
+}
+
+#[test]
+fn an_answer_of_a_class_without_a_datum_is_refused(rt: HostRuntime) -> Result<(), Fail> {
+    let theory =
+        b"theory Inc version 1 begin program put :: nat => nat; spec x . x < 0 --> x < put x; end";
+    let (answer, sink) = judged(rt.alloc(), theory, ANSWERED_1)?;
+    assert_eq!(rt; answer, Answer::Refused(Refusal::Early));
+    assert_eq!(rt; sink.bytes(), b"refused early\n".as_slice());
+    let (answer, _) = judged(rt.alloc(), theory, NOTHING_RECORDED)?;
+    assert_eq!(rt; answer, Answer::Done);
+    Ok(())
+}
+
+#[test]
+fn other_outcomes_are_refused(rt: HostRuntime) -> Result<(), Fail> {
+    let outcomes: [&[u8]; 6] = [
+        b"",
+        b" outcomes depth 3 bound 8 seed 1 tries 1000 width 16 begin",
+        b" outcomes depth 2 bound 8 seed 1 tries 1000 width 16 begin end",
+        b" outcomes depth 3 bound 8 seed 1 tries 1000 width 16 begin answer 2 1; end",
+        b" outcomes depth 3 bound 8 seed 1 tries 1000 width 16 begin answer 1 01; end",
+        b" outcomes depth 3 bound 8 seed 1 tries 1000 width 16 begin answer 1 1; answer 1 1; end",
+    ];
+    for outcome in outcomes {
+        let (answer, _) = judged(rt.alloc(), INC, outcome)?;
+        assert_eq!(rt; answer, Answer::Refused(Refusal::Early));
+    }
+    Ok(())
+}
+
+#[test]
+fn faults_of_judging_are_answered_as_such(rt: HostRuntime) -> Result<(), Fail> {
+    let mut input = Vec::from_slice(rt.alloc(), INC)?;
+    input.extend_from_slice(ANSWERED_0)?;
+    let input = input.as_slice();
+    let third = vec![in rt.alloc(); 3]?;
+    let (answer, sink) = run_failing(rt.alloc(), b"judge", input, third, Vec::new(rt.alloc()))?;
+    assert_eq!(rt; answer, Answer::ReadFault);
+    assert_eq!(rt; sink.bytes(), b"".as_slice());
+    let third = vec![in rt.alloc(); 3]?;
+    let (answer, sink) = run_failing(rt.alloc(), b"judge", input, Vec::new(rt.alloc()), third)?;
+    assert_eq!(rt; answer, Answer::WriteFault { written: 20 });
+    assert_eq!(rt; sink.bytes(), b"testgen Inc\nsettings".as_slice());
+    Ok(())
+}
+
 #[test]
 fn other_words_are_no_command(rt: HostRuntime) -> Result<(), Fail> {
-    let (answer, sink) = run_whole(rt.alloc(), b"judge", INC)?;
+    let (answer, sink) = run_whole(rt.alloc(), b"check", INC)?;
     assert_eq!(rt; answer, Answer::Usage);
     assert_eq!(rt; answer.status(), 2);
     assert_eq!(rt; sink.bytes(), b"".as_slice());

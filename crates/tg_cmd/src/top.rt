@@ -1,45 +1,57 @@
 ghost use Rattle.std.specs.Prelude.{◌≡◌, ◌↔◌, IsTrue};
 ghost use Rattle.tg_io.specs.Faults.{Rose};
 ghost use Rattle.tg_io.specs.Whole.{written_of};
-ghost use Rattle.tg_cmd.specs.Output.{generate_words, HasBytes, IsSilent, IsWriteFault};
+ghost use Rattle.tg_cmd.specs.declared.command.Command.{Command};
+ghost use Rattle.tg_cmd.specs.Output.{words_of, IsCommand, HasBytes, IsSilent, IsWriteFault};
 
-use crate::answer::Answer;
+use crate::answer::{Answer, Ending};
+use crate::command::command_of;
 use crate::output::make_output;
 use std::alloc::Global;
 use tg_io::{Sink, Source, WriteErr, write_all};
 use tg_types::Name;
 
-/// One run of the program: reads the theory that `source` gives, and writes its report to `sink`.
+/// One run of the program: reads what `source` gives, a theory for the word `generate`, and a theory and
+/// recorded outcomes for `judge`, and writes its report to `sink`.
 ///
-/// `Usage` comes exactly where the words aren't the one word `generate`, and then nothing is read or
+/// `Usage` comes exactly where the words are neither of these words alone, and then nothing is read or
 /// written. `ReadFault` comes only where the source's count of faults rose in this call, `WriteFault`
 /// only where the sink's did. `Refused` comes exactly where the input is longer than 1,000 bytes or
-/// reads as no theory of the form, and one line is written. Else the answer is `Done` and the report
-/// is written. The whole input is read before anything is written.
+/// doesn't have the form, and one line is written. Else the report is written, and the answer is
+/// `TestsFailed` exactly where `judge` gives the verdict `failed`, else `Done`. The whole input is read
+/// before anything is written.
+///
+/// The theorem that a report prints is derivable and true on every table. Where `judge` has answered
+/// `Done` or `TestsFailed`, on every finite table that has the outcome that is judged passed the printed
+/// hypotheses give the specification, which implies each of them on every table; and an outcome that is
+/// judged failed refutes it. (`IsHeadline` in `specs/Truths.antt`. HOL-TestGen's test theorem, after
+/// Brucker and Wolff.)
 pub fn run<S: Source, K: Sink>(
     alloc: Global,
     words: &[Name],
     source: &mut S,
     sink: &mut K,
 ) -> Answer
-    ensures usage { (result ≡ Answer.Usage) ↔ ¬ (words.now ≡ generate_words) }
+    ensures usage { (result ≡ Answer.Usage) ↔ ¬ (IsCommand words.now) }
     ensures unread { result ≡ Answer.Usage → source.new ≡ source.old }
     ensures read_fault { result ≡ Answer.ReadFault → Rose (S.faults source.old) (S.faults source.new) }
     ensures write_fault { IsWriteFault result → Rose (K.faults sink.old) (K.faults sink.new) }
     ensures silent { IsSilent result → sink.new ≡ sink.old }
-    ensures bytes { HasBytes result (S.left source.old) (S.left source.new) (K.written sink.old) (K.written sink.new) }
+    ensures bytes { (c : Command) → words.now ≡ words_of c → HasBytes c result (S.left source.old) (S.left source.new) (K.written sink.old) (K.written sink.new) }
 {
-    if !is_generate(words) {
-        return Answer::Usage;
-    }
-    let output = match make_output(alloc, source) {
+    let command = match command_of(words) {
+        Some(command) => command,
+        None => return Answer::Usage,
+    };
+    let output = match make_output(alloc, command, source) {
         Ok(output) => output,
         Err(answer) => return answer,
     };
     match write_all(sink, output.text.as_slice()) {
-        Ok(()) => match output.refusal {
-            None => Answer::Done,
-            Some(refusal) => Answer::Refused(refusal),
+        Ok(()) => match output.ending {
+            Ending::Done => Answer::Done,
+            Ending::TestsFailed => Answer::TestsFailed,
+            Ending::Refused(refusal) => Answer::Refused(refusal),
         },
         Err(error) => write_fault(error),
     }
@@ -50,14 +62,5 @@ fn write_fault(error: WriteErr) -> Answer
 {
     match error {
         WriteErr::Fault { written } => Answer::WriteFault { written },
-    }
-}
-
-fn is_generate(words: &[Name]) -> bool
-    ensures { IsTrue result ↔ (words.now ≡ generate_words) }
-{
-    match words {
-        [word] => word.bytes() == b"generate".as_slice(),
-        _ => false,
     }
 }

@@ -7,6 +7,7 @@ pub mod KnownTypings
 pub mod KnownValues
 pub mod Numbering
 pub mod Places
+pub mod Recorded
 pub mod Recursion
 pub mod SameValue
 pub mod Substitutions

@@ -11,7 +11,7 @@ use Rattle.tg_model.specs.WellTyped.{IsWellTyped}
 use Rattle.tg_model.specs.Truth.{Holds}
 use Rattle.tg_model.specs.Uses.{uses, uses_in_formula, AgreeWhere}
 use Rattle.tg_model.specs.Walk.{lifted, substituted, instantiated, abstracted, substituted_formula, instantiated_formula, abstracted_formula}
-use Rattle.tg_model.specs.Table.{Table, IsTable}
+use Rattle.tg_model.specs.Table.{Table, IsTable, IsListed, Lists, answer_of}
 use Rattle.tg_model.specs.Denotation.{World, place_of, lower_calls, case_value, recursive_value, body_value, world, world_below, den}
 
 -- a primitive recursive function, without the number that bounds the recursion
@@ -31,6 +31,17 @@ abbrev pub UnfoldsCalls : Type 0
 UnfoldsCalls = (th : Theory) (tb : Table) (n : ℕ) (x : Function) (vs : List Value) →
     n < length th.functions → numbered th.functions (suc n) ≡ Some x
     → (world th tb).calls (suc n) vs ≡ body_value (world_below th tb n) (suc n) x x.body vs
+
+-- What a table lists with an answer it lists, and of a table with distinct inputs the program's answer there is that one.
+abbrev pub IsListedWithAnswer : Type 0
+IsListedWithAnswer = (tb : Table) (vs : List Value) (v : Value) → Lists tb vs v → IsListed tb vs
+
+abbrev pub AnswersAreRecorded : Type 0
+AnswersAreRecorded = (th : Theory) (tb : Table) (vs : List Value) (v : Value) → IsTable th tb → Lists tb vs v → answer_of th tb vs ≡ v
+
+-- What is listed is typed.
+abbrev pub InputsAreTyped : Type 0
+InputsAreTyped = (th : Theory) (tb : Table) (vs : List Value) → IsTable th tb → IsListed tb vs → AreTyped th vs th.program.inputs
 
 -- Equality of values is decided by `same_value`.
 abbrev pub DecidesEquality : Type 0

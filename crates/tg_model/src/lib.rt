@@ -3,7 +3,7 @@
 //! definitions, one file a subject; the functions here have no code, and their contracts are the laws.
 #![tactic(auto)]
 
-ghost use Rattle.tg_model.specs.Laws.{UnfoldsRecursion, UnfoldsCalls, DecidesEquality, IsTypeSound};
+ghost use Rattle.tg_model.specs.Laws.{UnfoldsRecursion, UnfoldsCalls, DecidesEquality, IsTypeSound, IsListedWithAnswer, AnswersAreRecorded, InputsAreTyped};
 ghost use Rattle.tg_model.specs.Laws.{LiftingKeeps, SubstitutionKeeps, InstantiationKeeps, AbstractionKeeps};
 ghost use Rattle.tg_model.specs.Laws.{SubstitutionKeepsTruth, InstantiationKeepsTruth, AbstractionKeepsTruth};
 ghost use Rattle.tg_model.specs.Laws.{LiftingKeepsTypes, SubstitutionKeepsTypes, InstantiationKeepsTypes, AbstractionKeepsTypes};
@@ -21,6 +21,13 @@ pub fn unfolding()
 /// `=` on values is equality.
 pub fn equality()
     ensures { DecidesEquality }
+{}
+
+/// What a table lists with an answer is what the program answers there, and its inputs are typed.
+pub fn recorded_answers()
+    ensures listed { IsListedWithAnswer }
+    ensures answered { AnswersAreRecorded }
+    ensures typed { InputsAreTyped }
 {}
 
 /// Type soundness: in a well-typed theory a typed term has a value of its type.
