@@ -45,6 +45,6 @@ fn explain(rt: &impl Eprint, answer: &Answer) {
         Answer::WriteFault { written } => eprintln!(rt; "write fault after {written} bytes"),
         Answer::Memory => eprintln!(rt; "out of memory"),
         Answer::Refused(refusal) => eprintln!(rt; "{}", refusal.line()),
-        Answer::Done | Answer::Usage => Ok(()),
+        Answer::Done | Answer::TestsFailed | Answer::Usage => Ok(()),
     };
 }
