@@ -1,0 +1,18 @@
+//! The grammar of the language as data: the raw theories, outcomes and certificates that texts are read
+//! as, what the grammar sees of a token, and the table of its rules.
+#![tactic(auto)]
+
+mod certificates;
+mod declarations;
+mod formulas;
+pub mod operators;
+mod outcomes;
+mod terms;
+mod types;
+
+pub use certificates::{RawCert, RawLine};
+pub use declarations::{RawConDef, RawDecl, RawEq, RawPat, RawTheory};
+pub use formulas::RawFormula;
+pub use outcomes::{RawItem, RawOutcomes};
+pub use terms::{Binder, RawBranch, RawCon, RawTerm};
+pub use types::RawTy;
