@@ -5,14 +5,17 @@
 mod certificates;
 mod declarations;
 mod formulas;
-pub mod operators;
+pub mod kinds;
 mod outcomes;
+mod seeing;
 mod terms;
 mod types;
+mod words;
 
 pub use certificates::{RawCert, RawLine};
 pub use declarations::{RawConDef, RawDecl, RawEq, RawPat, RawTheory};
 pub use formulas::RawFormula;
 pub use outcomes::{RawItem, RawOutcomes};
+pub use seeing::{kind_of, place, text_of, value_of};
 pub use terms::{Binder, RawBranch, RawCon, RawTerm};
 pub use types::RawTy;

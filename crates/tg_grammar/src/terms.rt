@@ -15,7 +15,7 @@ pub enum RawTerm {
     Free(u64),
     /// `!n` of a certificate.
     Bound(u64),
-    /// An operator, by its code in [`operators`](crate::operators), and its operands.
+    /// An operator and its operands. It is named by the kind of its token.
     Op(u32, Items<RawTerm>),
     /// Condition, `then` and `else`.
     If(Items<RawTerm>),
