@@ -152,42 +152,45 @@ nat_word = 55
 abbrev pub bool_word : ℕ
 bool_word = 56
 
--- ---- Words with a meaning in one place; elsewhere they are names.
+-- ---- Names: the ordinary ones, and words with a meaning in one place.
+
+abbrev pub other_word : ℕ
+other_word = 69
 
 abbrev pub depth_word : ℕ
-depth_word = 61
+depth_word = 70
 
 abbrev pub bound_word : ℕ
-bound_word = 62
+bound_word = 71
 
 abbrev pub seed_word : ℕ
-seed_word = 63
+seed_word = 72
 
 abbrev pub tries_word : ℕ
-tries_word = 64
+tries_word = 73
 
 abbrev pub width_word : ℕ
-width_word = 65
+width_word = 74
 
 abbrev pub answer_word : ℕ
-answer_word = 66
+answer_word = 75
 
 abbrev pub raised_word : ℕ
-raised_word = 67
+raised_word = 76
 
 abbrev pub all_word : ℕ
-all_word = 68
+all_word = 77
 
 abbrev pub exists_word : ℕ
-exists_word = 69
+exists_word = 78
 
 abbrev pub thyp_word : ℕ
-thyp_word = 70
+thyp_word = 79
 
 abbrev pub tested_word : ℕ
-tested_word = 71
+tested_word = 80
 
--- ---- So are the names of the rules of the calculus. A rule has 80 more than its place among the 26 rules.
+-- ---- The rules of the calculus have such a meaning too. A rule has 80 more than its place among the 26 rules.
 
 abbrev pub hyp_rule : ℕ
 hyp_rule = 81
@@ -267,19 +270,16 @@ deep_rule = 105
 abbrev pub compute_rule : ℕ
 compute_rule = 106
 
--- ---- Tokens with many texts. The grammar tells the numbers 0 and 1 from the others.
-
-abbrev pub other_word : ℕ
-other_word = 111
+-- ---- Type variables and numbers. The grammar tells the numbers 0 and 1 from the others.
 
 abbrev pub type_variable : ℕ
-type_variable = 112
+type_variable = 107
 
 abbrev pub zero_number : ℕ
-zero_number = 113
+zero_number = 108
 
 abbrev pub one_number : ℕ
-one_number = 114
+one_number = 109
 
 abbrev pub other_number : ℕ
-other_number = 115
+other_number = 110

@@ -152,42 +152,45 @@ pub const NAT_WORD: u32 = 55;
 /// `bool`.
 pub const BOOL_WORD: u32 = 56;
 
-// Words with a meaning in one place; elsewhere they are names.
+// Names: the ordinary ones, and words with a meaning in one place.
+
+/// A word that is no other kind of word.
+pub const OTHER_WORD: u32 = 69;
 
 /// `depth`.
-pub const DEPTH_WORD: u32 = 61;
+pub const DEPTH_WORD: u32 = 70;
 
 /// `bound`.
-pub const BOUND_WORD: u32 = 62;
+pub const BOUND_WORD: u32 = 71;
 
 /// `seed`.
-pub const SEED_WORD: u32 = 63;
+pub const SEED_WORD: u32 = 72;
 
 /// `tries`.
-pub const TRIES_WORD: u32 = 64;
+pub const TRIES_WORD: u32 = 73;
 
 /// `width`.
-pub const WIDTH_WORD: u32 = 65;
+pub const WIDTH_WORD: u32 = 74;
 
 /// `answer`.
-pub const ANSWER_WORD: u32 = 66;
+pub const ANSWER_WORD: u32 = 75;
 
 /// `raised`.
-pub const RAISED_WORD: u32 = 67;
+pub const RAISED_WORD: u32 = 76;
 
 /// `ALL`.
-pub const ALL_WORD: u32 = 68;
+pub const ALL_WORD: u32 = 77;
 
 /// `EX`.
-pub const EXISTS_WORD: u32 = 69;
+pub const EXISTS_WORD: u32 = 78;
 
 /// `THYP`.
-pub const THYP_WORD: u32 = 70;
+pub const THYP_WORD: u32 = 79;
 
 /// `tested`.
-pub const TESTED_WORD: u32 = 71;
+pub const TESTED_WORD: u32 = 80;
 
-// So are the names of the rules of the calculus. A rule has 80 more than its place among the 26
+// The rules of the calculus have such a meaning too. A rule has 80 more than its place among the 26
 // rules.
 
 /// `hyp`.
@@ -268,19 +271,16 @@ pub const DEEP_RULE: u32 = 105;
 /// `compute`.
 pub const COMPUTE_RULE: u32 = 106;
 
-// Tokens with many texts. The grammar tells the numbers 0 and 1 from the others.
-
-/// Any other word.
-pub const OTHER_WORD: u32 = 111;
+// Type variables and numbers. The grammar tells the numbers 0 and 1 from the others.
 
 /// A type variable.
-pub const TYPE_VARIABLE: u32 = 112;
+pub const TYPE_VARIABLE: u32 = 107;
 
 /// A number of the value 0.
-pub const ZERO_NUMBER: u32 = 113;
+pub const ZERO_NUMBER: u32 = 108;
 
 /// A number of the value 1.
-pub const ONE_NUMBER: u32 = 114;
+pub const ONE_NUMBER: u32 = 109;
 
 /// Any other number.
-pub const OTHER_NUMBER: u32 = 115;
+pub const OTHER_NUMBER: u32 = 110;
