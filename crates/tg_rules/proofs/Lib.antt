@@ -1,0 +1,4 @@
+pub mod NextToken
+pub mod Firsts
+pub mod Sound
+pub mod Complete
