@@ -2,3 +2,7 @@ pub mod NextToken
 pub mod Firsts
 pub mod Sound
 pub mod Complete
+pub mod Heights
+pub mod Turns
+pub mod Opens
+pub mod Local
