@@ -4,5 +4,5 @@ pub mod Sound
 pub mod Complete
 pub mod Heights
 pub mod Turns
-pub mod Opens
-pub mod Local
+pub mod Completions
+pub mod Locality
