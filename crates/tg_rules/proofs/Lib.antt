@@ -6,3 +6,5 @@ pub mod Heights
 pub mod Turns
 pub mod Completions
 pub mod Locality
+pub mod Places
+pub mod Whole
