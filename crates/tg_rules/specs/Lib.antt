@@ -1,0 +1,5 @@
+pub mod Rule
+pub mod Texts
+pub mod Fault
+pub mod Foresight
+pub mod Reader

@@ -1,0 +1,2 @@
+//! A theory of grammars as tables of rules.
+#![tactic(auto)]
