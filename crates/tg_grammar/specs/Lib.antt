@@ -5,3 +5,5 @@ pub mod Parts
 pub mod Making
 pub mod Page
 pub mod Table
+pub mod First
+pub mod Samples
