@@ -7,3 +7,4 @@ pub mod Page
 pub mod Table
 pub mod First
 pub mod Samples
+pub mod Reading
