@@ -1,2 +1,4 @@
 pub mod Fits
-pub mod Pages
+pub mod TextParts
+pub mod FromPage
+pub mod ToPage
