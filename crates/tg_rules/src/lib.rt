@@ -1,2 +1,8 @@
 //! A theory of grammars as tables of rules.
 #![tactic(auto)]
+
+mod grammar;
+mod laws;
+
+pub use grammar::{Differences, Grammar, Page};
+pub use laws::{faults, pages, reading, texts};
