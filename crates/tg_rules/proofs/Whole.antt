@@ -1,6 +1,6 @@
 -- The laws of a grammar all of whose parts pass: what `read` reads is exactly what the rules say, and a fault is where no text
 -- goes on.
-use Rattle.std.proofs.Common.{◌≡◌, ◌⊎◌, ℕ, zero, suc, ◌+◌, ◌*◌, ◌<◌, ◌≤◌, Bool, true, false, ◌&&◌, nat_lt, List, [], ◌∷◌, ◌++◌, length, inl, inr, refl, sym, ap, subst, ◌∙◌, append_assoc, append-nil, arith}
+use Rattle.std.proofs.Common.{◌≡◌, ◌⊎◌, ℕ, zero, suc, ◌+◌, ◌*◌, ◌<◌, ◌≤◌, Bool, true, false, ◌&&◌, nat_lt, List, [], ◌∷◌, ◌++◌, length, inl, inr, refl, sym, ap, subst, ◌∙◌, append_assoc, append-nil, length-append, arith}
 use Rattle.std.proofs.lemmas.Bool.{and_parts, ltb-true}
 use Rattle.tg_rules.specs.Rule.{Rule}
 use Rattle.tg_rules.specs.Texts.{Is, Within, Reads}
@@ -10,6 +10,7 @@ use Rattle.tg_rules.specs.Reader.{Read, ok, err, out, is_whole, starts, read_in,
 use Rattle.tg_rules.proofs.Sound.{sound_within, same_value, same_rest, ok_or_err}
 use Rattle.tg_rules.proofs.Complete.{complete_within}
 use Rattle.tg_rules.proofs.Heights.{taller}
+use Rattle.tg_rules.proofs.Places.{fronts}
 use Rattle.tg_rules.proofs.Turns.{as_read, reads_rule}
 use Rattle.tg_rules.proofs.Completions.{viable_within}
 use Rattle.tg_rules.proofs.Locality.{Local, goes, stops, past, left_of, local_within}
@@ -136,3 +137,23 @@ module _ {T : Type 0} (kind : T → ℕ) {N : Type 0} {Val : N → Type 0} (rule
 
   pub text_or_fault : (n : N) (ts : List T) → ((v : Val n) × Reads kind rule n v ts) ⊎ ((p : List T) × (left : List T) × IsFault (Reads kind rule n) ts p left)
   text_or_fault n ts = by_reading n ts (read kind f rule n ts) refl
+
+  -- the same with a front that is known
+  same_front : (p q left : List T) → p ++ left ≡ q ++ left → p ≡ q
+  same_front p q left e =
+      elim (fronts p q left left e) [
+        | inl same ↦ same.0
+        | inr (inl (t, s, rest, longer, l)) ↦ absurd (omega (arith, ap length e, ap length longer, length-append p left, length-append q left, length-append p (t ∷ s)))
+        | inr (inr (t, s, rest, longer, l)) ↦ absurd (omega (arith, ap length e, ap length longer, length-append p left, length-append q left, length-append q (t ∷ s)))
+      ]
+
+  pub fault_at : (n : N) (front left : List T) → read kind f rule n (front ++ left) ≡ err left → IsFault (Reads kind rule n) (front ++ left) front left
+  fault_at n front left e =
+      let (p, h) = fault_read n (front ++ left) left e in
+      subst (λ z. IsFault (Reads kind rule n) (front ++ left) z left) (sym (same_front front p left h.0)) h
+
+  pub fault_before : (n : N) (front : List T) (v : Val n) (t : T) (left : List T) → read kind f rule n (front ++ t ∷ left) ≡ ok v (t ∷ left)
+      → IsFault (Reads kind rule n) (front ++ t ∷ left) front (t ∷ left)
+  fault_before n front v t left e =
+      let (p, h) = fault_behind n (front ++ t ∷ left) v t left e in
+      subst (λ z. IsFault (Reads kind rule n) (front ++ t ∷ left) z (t ∷ left)) (sym (same_front front p (t ∷ left) h.0)) h

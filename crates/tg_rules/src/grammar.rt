@@ -26,9 +26,20 @@ pub trait Grammar {
     ghost pass: { (n : Part) → passes kind rule foresight token sample n ≡ true };
 }
 
-/// A second table of rules for the same parts, as a page may have it, of which a reader has no use.
-pub trait Page: Grammar {
+/// Two tables of rules with the same parts, as the one of a page, that is to be read by people, and the
+/// one that a reader goes by. Nothing is asked of either.
+pub trait Tables {
+    ghost Token: { Type 0 };
+
+    ghost kind: { Token → ℕ };
+
+    ghost Part: { Type 0 };
+
+    ghost Meaning: { Part → Type 0 };
+
     ghost page: { (n : Part) → Rule Token Part Meaning (Meaning n) };
+
+    ghost rule: { (n : Part) → Rule Token Part Meaning (Meaning n) };
 }
 
 /// The example: differences, grouped to the left.
@@ -57,8 +68,18 @@ impl Grammar for Differences {
     ghost pass = { all_pass };
 }
 
-impl Page for Differences {
-    ghost use Rattle.tg_rules.specs.Differences.{page};
+impl Tables for Differences {
+    ghost use Rattle.tg_rules.specs.Differences.{Token, kind, Part, Meaning, rule, page};
+
+    ghost Token = { Token };
+
+    ghost kind = { kind };
+
+    ghost Part = { Part };
+
+    ghost Meaning = { Meaning };
 
     ghost page = { page };
+
+    ghost rule = { rule };
 }

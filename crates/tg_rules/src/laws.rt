@@ -1,4 +1,4 @@
-use crate::grammar::{Grammar, Page};
+use crate::grammar::{Grammar, Tables};
 
 ghost use Rattle.tg_rules.specs.Laws.{AreByRule, HasOneReading, HasTextOrFault, HasNotBoth, HasOneFault, HasFaultAtLongest, HasFronts};
 ghost use Rattle.tg_rules.specs.Laws.{IsSound, IsComplete, StopsAtFault, StopsBeforeFault, ReadsByRule, HasEnoughTurns, HasReadingsOf};
@@ -31,7 +31,7 @@ pub fn faults<G: Grammar>()
 
 /// Of two tables with the same parts, one has all readings of the other if its rules put together
 /// nothing but what the other reads already.
-pub fn pages<G: Page>()
+pub fn pages<G: Tables>()
     ensures to_page { HasReadingsOf G.kind G.page G.rule }
     ensures from_page { HasReadingsOf G.kind G.rule G.page }
 {}

@@ -4,5 +4,5 @@
 mod grammar;
 mod laws;
 
-pub use grammar::{Differences, Grammar, Page};
+pub use grammar::{Differences, Grammar, Tables};
 pub use laws::{faults, pages, reading, texts};
