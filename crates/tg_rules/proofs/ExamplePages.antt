@@ -1,9 +1,9 @@
 -- The example's table for a reader has the readings of its table on paper, which says by itself that differences are grouped
 -- to the left.
-use Rattle.std.proofs.Common.{◌≡◌, ◌⊎◌, ◌↔◌, ℕ, zero, suc, true, Option, Some, None, List, [], ◌∷◌, ◌++◌, inl, inr, refl, sym, ap, subst, ◌∙◌, append_assoc, append-nil}
-use Rattle.tg_rules.specs.Rule.{Rule, tok, nt, seq, alt, opt, act, ◌▸◌}
-use Rattle.tg_rules.specs.Texts.{Is, Within, Reads}
-use Rattle.tg_rules.specs.Differences.{Token, minus, kind, Tree, less, Part, difference, further, atom, Meaning, grouped, listed, rule, page}
+use Rattle.std.proofs.Common.{◌≡◌, ◌⊎◌, ◌↔◌, Some, None, List, [], ◌∷◌, ◌++◌, inl, inr, refl, sym, ap, subst, ◌∙◌, append_assoc, append-nil}
+use Rattle.tg_rules.specs.Rule.{Rule, nt, ◌▸◌}
+use Rattle.tg_rules.specs.Texts.{Is, Reads}
+use Rattle.tg_rules.specs.Differences.{Token, kind, Tree, less, Part, difference, further, atom, Meaning, grouped, listed, rule, page}
 use Rattle.tg_rules.proofs.Firsts.{first_same, rest_same}
 use Rattle.tg_rules.proofs.Heights.{by_rule, of_rule, reads_also}
 

@@ -1,13 +1,13 @@
 -- What is known of the example by hand, said of the definitions, so that a slip in one of them doesn't check.
-use Rattle.std.proofs.Common.{◌≡◌, ℕ, zero, suc, Bool, true, false, ◌&&◌, Some, None, List, [], ◌∷◌, ◌++◌, refl, inl, inr, sym}
-use Rattle.tg_rules.specs.Rule.{Rule, tok, nt, seq, alt, opt, act}
-use Rattle.tg_rules.specs.Texts.{Is, Within, Reads}
-use Rattle.tg_rules.specs.Fault.{Begins, IsFault}
-use Rattle.tg_rules.specs.Foresight.{Foresight, fits, below, agrees, empty_of, first_of, more_of, spelled}
-use Rattle.tg_rules.specs.Reader.{Read, ok, err, out, read, read_within, passes}
-use Rattle.tg_rules.specs.Differences.{Token, number, minus, open_bracket, close_bracket, kind, Tree, leaf, less, Part, difference, further, atom, Meaning, rule, page, foresight, token, sample}
+use Rattle.std.proofs.Common.{◌≡◌, false, Some, None, List, [], ◌∷◌, refl, inl, inr}
+use Rattle.tg_rules.specs.Rule.{nt, seq, alt, opt}
+use Rattle.tg_rules.specs.Texts.{Reads}
+use Rattle.tg_rules.specs.Fault.{IsFault}
+use Rattle.tg_rules.specs.Foresight.{fits, below, agrees, spelled}
+use Rattle.tg_rules.specs.Reader.{Read, ok, read, passes}
+use Rattle.tg_rules.specs.Differences.{Token, number, minus, open_bracket, close_bracket, kind, Tree, leaf, less, difference, further, atom, Meaning, rule, page, foresight, token, sample}
 use Rattle.tg_rules.specs.Passing.{all_pass}
-use Rattle.tg_rules.proofs.Places.{not_both, longest}
+use Rattle.tg_rules.proofs.Places.{not_both}
 use Rattle.tg_rules.proofs.Whole.{whole_read, one_reading, fault_at, fault_before}
 
 abbrev one : Token

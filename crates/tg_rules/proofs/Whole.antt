@@ -1,9 +1,9 @@
 -- The laws of a grammar all of whose parts pass: what `read` reads is exactly what the rules say, and a fault is where no text
 -- goes on.
-use Rattle.std.proofs.Common.{◌≡◌, ◌⊎◌, ℕ, zero, suc, ◌+◌, ◌*◌, ◌<◌, ◌≤◌, Bool, true, false, ◌&&◌, nat_lt, List, [], ◌∷◌, ◌++◌, length, inl, inr, refl, sym, ap, subst, ◌∙◌, append_assoc, append-nil, length-append, arith}
+use Rattle.std.proofs.Common.{◌≡◌, ◌⊎◌, ℕ, ◌+◌, ◌*◌, ◌<◌, ◌≤◌, true, false, nat_lt, List, [], ◌∷◌, ◌++◌, length, inl, inr, refl, sym, ap, subst, ◌∙◌, append_assoc, append-nil, length-append, arith}
 use Rattle.std.proofs.lemmas.Bool.{and_parts, ltb-true}
 use Rattle.tg_rules.specs.Rule.{Rule}
-use Rattle.tg_rules.specs.Texts.{Is, Within, Reads}
+use Rattle.tg_rules.specs.Texts.{Reads}
 use Rattle.tg_rules.specs.Fault.{Begins, IsWrongAt, IsFault}
 use Rattle.tg_rules.specs.Foresight.{Foresight, rank_limit, fits, agrees, below, spelled}
 use Rattle.tg_rules.specs.Reader.{Read, ok, err, out, is_whole, starts, read_in, read_within, read, passes}
@@ -25,10 +25,10 @@ module _ {T : Type 0} where
   -- what leaves `t` for one text isn't a whole text for another that has `t` there
   no_whole : {A : Type 0} (t : T) (r c : List T) (x y : Read T A) (w : A) → Local t r c x y → length r < left_of x → y ≡ ok w [] → ⊥
   no_whole t r c x y w (goes v q e1 e2) less e = absurd (nothing q (same_rest y v w (q ++ t ∷ c) [] e2 e))
-      where
-        nothing : (q : List T) → q ++ t ∷ c ≡ [] → ⊥
-        nothing [] h = cc
-        nothing (s ∷ q) h = cc
+    where
+      nothing : (q : List T) → q ++ t ∷ c ≡ [] → ⊥
+      nothing [] h = cc
+      nothing (s ∷ q) h = cc
   no_whole t r c x y w (stops q e1 e2) less e = ok_or_err y w [] (q ++ t ∷ c) e e2
   no_whole t r c x y w (past le) less e = omega (arith, le, less)
 

@@ -1,10 +1,10 @@
 -- The laws of a grammar, which the crate's functions carry: of its texts, of its reader, and of the place of a fault.
-use Rattle.std.specs.Prelude.{◌≡◌, ◌⊎◌, ◌↔◌, ℕ, ◌≤◌, false, List, [], ◌∷◌, ◌++◌, length}
+use Rattle.std.specs.Prelude.{◌≡◌, ◌⊎◌, ◌↔◌, ℕ, false, List, ◌∷◌, ◌++◌}
 use Rattle.tg_rules.specs.Rule.{Rule}
 use Rattle.tg_rules.specs.Texts.{Is, Reads}
-use Rattle.tg_rules.specs.Fault.{Begins, IsFault}
+use Rattle.tg_rules.specs.Fault.{Begins, IsFault, IsLongestFront}
 use Rattle.tg_rules.specs.Foresight.{Foresight}
-use Rattle.tg_rules.specs.Reader.{Read, ok, err, out, starts, read_in, read}
+use Rattle.tg_rules.specs.Reader.{ok, err, out, starts, read_in, read}
 
 module _ {T : Type 0} (kind : T → ℕ) {N : Type 0} {Val : N → Type 0} (rule : (n : N) → Rule T N Val (Val n)) where
   -- The texts of a part are those of its rule.
@@ -23,13 +23,14 @@ module _ {T : Type 0} (kind : T → ℕ) {N : Type 0} {Val : N → Type 0} (rule
   abbrev pub HasNotBoth : Type 0
   HasNotBoth = (n : N) (v : Val n) (ts front left : List T) → Reads kind rule n v ts → ¬ IsFault (Reads kind rule n) ts front left
 
-  -- and the fault is at one place:
+  -- and the fault is at one place,
   abbrev pub HasOneFault : Type 0
   HasOneFault = (n : N) (ts p q left rest : List T) → IsFault (Reads kind rule n) ts p left → IsFault (Reads kind rule n) ts q rest → (p ≡ q) × (left ≡ rest)
 
-  -- the front before it is the longest front of the tokens with which a text of the part begins.
+  -- the end of the longest front of the tokens with which a text begins, where they are no text.
   abbrev pub HasFaultAtLongest : Type 0
-  HasFaultAtLongest = (n : N) (ts front left q rest : List T) → IsFault (Reads kind rule n) ts front left → ts ≡ q ++ rest → Begins (Reads kind rule n) q → length q ≤ length front
+  HasFaultAtLongest = (n : N) (ts front left : List T) → ts ≡ front ++ left → IsFault (Reads kind rule n) ts front left
+      ↔ (IsLongestFront (Reads kind rule n) ts front × ((v : Val n) → ¬ Reads kind rule n v ts))
 
   -- With what begins a text, every front of it begins one.
   abbrev pub HasFronts : Type 0
@@ -59,9 +60,18 @@ module _ {T : Type 0} (kind : T → ℕ) {N : Type 0} {Val : N → Type 0} (rule
     abbrev pub HasEnoughTurns : Type 0
     HasEnoughTurns = (n : N) (ts : List T) → ¬ (read kind f rule n ts ≡ out)
 
--- All readings of one table are readings of another one with the same parts, if its rules put together nothing but what the
--- other reads already.
-abbrev pub HasReadingsOf : {T : Type 0} (kind : T → ℕ) {N : Type 0} {Val : N → Type 0} → ((n : N) → Rule T N Val (Val n)) → ((n : N) → Rule T N Val (Val n)) → Type 0
-HasReadingsOf {T} kind {N} {Val} rule other =
-    ((n : N) (v : Val n) (ts : List T) → Is kind (Reads kind rule) (other n) v ts → Reads kind rule n v ts)
-    → (n : N) (v : Val n) (ts : List T) → Reads kind other n v ts → Reads kind rule n v ts
+-- Two tables with the same parts.
+module _ {T : Type 0} (kind : T → ℕ) {N : Type 0} {Val : N → Type 0} (rule other : (n : N) → Rule T N Val (Val n)) where
+  -- The one has all readings of the other, if the rules of the other put together nothing but what the one reads already.
+  abbrev pub HasReadingsOf : Type 0
+  HasReadingsOf =
+      ((n : N) (v : Val n) (ts : List T) → Is kind (Reads kind rule) (other n) v ts → Reads kind rule n v ts)
+      → (n : N) (v : Val n) (ts : List T) → Reads kind other n v ts → Reads kind rule n v ts
+
+  abbrev pub HaveSameReadings : Type 0
+  HaveSameReadings = (n : N) (v : Val n) (ts : List T) → Reads kind rule n v ts ↔ Reads kind other n v ts
+
+  -- With the same readings they have the same faults.
+  abbrev pub HaveSameFaults : Type 0
+  HaveSameFaults =
+      HaveSameReadings → (n : N) (ts front left : List T) → IsFault (Reads kind rule n) ts front left ↔ IsFault (Reads kind other n) ts front left

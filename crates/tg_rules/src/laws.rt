@@ -1,7 +1,9 @@
-use crate::grammar::{Grammar, Tables};
-
 ghost use Rattle.tg_rules.specs.Laws.{AreByRule, HasOneReading, HasTextOrFault, HasNotBoth, HasOneFault, HasFaultAtLongest, HasFronts};
-ghost use Rattle.tg_rules.specs.Laws.{IsSound, IsComplete, StopsAtFault, StopsBeforeFault, ReadsByRule, HasEnoughTurns, HasReadingsOf};
+ghost use Rattle.tg_rules.specs.Laws.{IsSound, IsComplete, ReadsByRule, HasEnoughTurns, StopsAtFault, StopsBeforeFault};
+ghost use Rattle.tg_rules.specs.Laws.{HasReadingsOf, HaveSameReadings, HaveSameFaults};
+ghost use Rattle.tg_rules.specs.Differences.{kind, page, rule};
+
+use crate::grammar::{Grammar, Tables};
 
 /// The texts of a part are those of its rule, and a text has one value.
 pub fn texts<G: Grammar>()
@@ -29,9 +31,15 @@ pub fn faults<G: Grammar>()
     ensures behind { StopsBeforeFault G.kind G.rule G.foresight }
 {}
 
-/// Of two tables with the same parts, one has all readings of the other if its rules put together
-/// nothing but what the other reads already.
+/// Of two tables with the same parts, one has all readings of the other if the other's rules put
+/// together nothing but what the one reads already. With the same readings they have the same faults.
 pub fn pages<G: Tables>()
     ensures to_page { HasReadingsOf G.kind G.page G.rule }
     ensures from_page { HasReadingsOf G.kind G.rule G.page }
+    ensures faults { HaveSameFaults G.kind G.page G.rule }
+{}
+
+/// The example's two tables have the same readings, though on paper a difference begins with one.
+pub fn differences()
+    ensures { HaveSameReadings kind page rule }
 {}

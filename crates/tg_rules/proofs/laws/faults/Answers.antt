@@ -1,5 +1,5 @@
 use Rattle.tg_rules.specs.Texts.{Reads}
-use Rattle.tg_rules.proofs.Places.{begins_front, one_fault, not_both, longest}
+use Rattle.tg_rules.proofs.Places.{begins_front, one_fault, not_both, fault_is_longest}
 use Rattle.tg_rules.proofs.Whole.{text_or_fault, fault_read, fault_behind}
 use Rattle.tg_rules.proofs.laws.faults.Goals as goal
 
@@ -13,7 +13,7 @@ pub returns-clause-one : goal.returns-clause-one
 returns-clause-one g c n = one_fault (Reads g.G.Grammar.kind g.G.Grammar.rule n)
 
 pub returns-clause-longest : goal.returns-clause-longest
-returns-clause-longest g c n = longest (Reads g.G.Grammar.kind g.G.Grammar.rule n)
+returns-clause-longest g c n = fault_is_longest (Reads g.G.Grammar.kind g.G.Grammar.rule n)
 
 pub returns-clause-fronts : goal.returns-clause-fronts
 returns-clause-fronts g c n = begins_front (Reads g.G.Grammar.kind g.G.Grammar.rule n)
