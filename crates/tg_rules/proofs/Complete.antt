@@ -1,10 +1,10 @@
 -- Every text is read, up to a token that can't go on with it.
-use Rattle.std.proofs.Common.{◌≡◌, ℕ, zero, suc, Bool, true, false, not, ◌&&◌, Option, Some, None, List, [], ◌∷◌, ◌++◌, inl, inr, refl, sym, ap, subst, ◌∙◌, append_assoc, if◌then◌else◌}
+use Rattle.std.proofs.Common.{◌≡◌, ℕ, zero, suc, true, false, not, Some, List, [], ◌∷◌, ◌++◌, inl, inr, refl, ap, ◌∙◌, append_assoc}
 use Rattle.std.proofs.lemmas.Bool.{cases_Bool, and_parts, not-true}
-use Rattle.tg_rules.specs.Rule.{Rule, tok, nt, seq, alt, opt, act, has}
+use Rattle.tg_rules.specs.Rule.{Rule, tok, nt, seq, alt, opt, act}
 use Rattle.tg_rules.specs.Texts.{Is, Within}
 use Rattle.tg_rules.specs.Foresight.{Foresight, empty_of, first_of, more_of, fits, agrees, apart}
-use Rattle.tg_rules.specs.Reader.{Read, ok, err, out, mapped, followed, starts, token_at, read_in, read_within}
+use Rattle.tg_rules.specs.Reader.{Read, ok, mapped, followed, starts, read_in, read_within}
 use Rattle.tg_rules.proofs.NextToken.{starts_neither, starts_fewer, starts_apart}
 use Rattle.tg_rules.proofs.Firsts.{IsForeseen, empty_text, first_token, text_starts, foreseen_within, mores_agree}
 

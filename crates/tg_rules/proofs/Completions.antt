@@ -1,10 +1,10 @@
 -- What was read before a fault can be completed to a text.
-use Rattle.std.proofs.Common.{◌≡◌, ◌⊎◌, ℕ, zero, suc, Bool, true, false, ◌&&◌, Option, Some, None, List, [], ◌∷◌, ◌++◌, inl, inr, refl, sym, ap, subst, ◌∙◌, append_assoc, append-nil, if◌then◌else◌}
+use Rattle.std.proofs.Common.{◌≡◌, ℕ, zero, suc, Bool, true, false, Some, None, List, [], ◌∷◌, ◌++◌, inl, inr, refl, sym, ap, ◌∙◌, append_assoc, if◌then◌else◌}
 use Rattle.std.proofs.lemmas.Bool.{cases_Bool, and_parts}
 use Rattle.tg_rules.specs.Rule.{Rule, tok, nt, seq, alt, opt, act, has}
-use Rattle.tg_rules.specs.Texts.{Is, Within, Reads}
+use Rattle.tg_rules.specs.Texts.{Is, Reads}
 use Rattle.tg_rules.specs.Foresight.{Foresight, first_of, spelled}
-use Rattle.tg_rules.specs.Reader.{Read, ok, err, out, mapped, followed, starts, token_at, read_in, read_within}
+use Rattle.tg_rules.specs.Reader.{Read, ok, err, out, starts, token_at, read_in, read_within}
 use Rattle.tg_rules.proofs.Sound.{sound, sound_within, mapped_err, followed_err, same_fault, ok_or_err, err_or_out}
 use Rattle.tg_rules.proofs.Heights.{by_rule}
 

@@ -1,9 +1,9 @@
 -- What a text of a rule begins with, and whether it may be empty, is what the foresight says.
-use Rattle.std.proofs.Common.{◌≡◌, ℕ, zero, suc, Bool, true, false, not, ◌&&◌, ◌||◌, List, [], ◌∷◌, ◌++◌, inl, inr, refl, sym, ap, subst, ◌∙◌}
-use Rattle.std.proofs.lemmas.Bool.{and_parts, and_from, or_left, or_right, or_cases, cases_Bool, not-true}
+use Rattle.std.proofs.Common.{◌≡◌, ℕ, zero, suc, Bool, true, false, not, ◌||◌, List, [], ◌∷◌, ◌++◌, inl, inr, refl, sym, ap, subst, ◌∙◌}
+use Rattle.std.proofs.lemmas.Bool.{and_parts, and_from, or_left, or_right, cases_Bool}
 use Rattle.tg_rules.specs.Rule.{Rule, tok, nt, seq, alt, opt, act, has}
 use Rattle.tg_rules.specs.Texts.{Is, Within, Reads}
-use Rattle.tg_rules.specs.Foresight.{Foresight, empty_of, first_of, more_of, fits, agrees, all_in}
+use Rattle.tg_rules.specs.Foresight.{Foresight, empty_of, first_of, more_of, agrees, all_in}
 use Rattle.tg_rules.specs.Reader.{starts}
 use Rattle.tg_rules.proofs.NextToken.{has_left, has_right, in_all, clash}
 

@@ -1,6 +1,6 @@
 -- Trees of several heights are one tree: what is put together of texts of the parts is a text.
-use Rattle.std.proofs.Common.{◌≡◌, ◌⊎◌, ℕ, zero, suc, ◌+◌, ◌≤◌, Option, Some, None, List, [], ◌∷◌, ◌++◌, inl, inr, refl, arith}
-use Rattle.tg_rules.specs.Rule.{Rule, tok, nt, seq, alt, opt, act, has}
+use Rattle.std.proofs.Common.{ℕ, zero, suc, ◌+◌, ◌≤◌, List, inl, inr, arith}
+use Rattle.tg_rules.specs.Rule.{Rule, tok, nt, seq, alt, opt, act}
 use Rattle.tg_rules.specs.Texts.{Is, Within, Reads}
 
 module _ {T : Type 0} (kind : T → ℕ) {N : Type 0} {Val : N → Type 0} where

@@ -8,3 +8,5 @@ pub mod Completions
 pub mod Locality
 pub mod Places
 pub mod Whole
+pub mod KnownValues
+pub mod ExamplePages

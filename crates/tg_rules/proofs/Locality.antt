@@ -1,6 +1,6 @@
 -- A reader has one token of foresight: of two texts with the same tokens up to `t`, it does the same until it takes `t`. So
 -- what goes wrong at `t` goes wrong there whatever stands behind.
-use Rattle.std.proofs.Common.{◌≡◌, ℕ, zero, suc, ◌≤◌, Bool, true, false, Option, Some, None, List, [], ◌∷◌, ◌++◌, length, inl, inr, refl, sym, ap, subst, ◌∙◌, if◌then◌else◌, arith}
+use Rattle.std.proofs.Common.{◌≡◌, ℕ, zero, suc, ◌≤◌, Bool, true, false, Some, None, List, [], ◌∷◌, ◌++◌, length, refl, sym, ap, subst, if◌then◌else◌, arith}
 use Rattle.tg_rules.specs.Rule.{Rule, tok, nt, seq, alt, opt, act, has}
 use Rattle.tg_rules.specs.Foresight.{Foresight, first_of}
 use Rattle.tg_rules.specs.Reader.{Read, ok, err, out, mapped, followed, starts, token_at, read_in, read_within}

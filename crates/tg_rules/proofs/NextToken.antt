@@ -1,6 +1,6 @@
 -- Lists of kinds, and the next token.
-use Rattle.std.proofs.Common.{◌≡◌, ℕ, Bool, true, false, not, ◌&&◌, ◌||◌, nat_eq, List, [], ◌∷◌, ◌++◌, inl, inr, refl, sym, ap, subst, ◌∙◌}
-use Rattle.std.proofs.lemmas.Bool.{and_parts, or_parts, or_left, or_right, or_cases, not-true, eqb-true, cases_Bool, true≢false}
+use Rattle.std.proofs.Common.{◌≡◌, ℕ, Bool, true, false, not, nat_eq, List, [], ◌∷◌, ◌++◌, inl, inr, refl, sym, ap, ◌∙◌}
+use Rattle.std.proofs.lemmas.Bool.{and_parts, or_left, or_right, or_cases, not-true, eqb-true}
 use Rattle.tg_rules.specs.Rule.{has}
 use Rattle.tg_rules.specs.Foresight.{all_in, apart}
 use Rattle.tg_rules.specs.Reader.{starts}

@@ -1,6 +1,6 @@
 -- The place of a fault is one place: the end of the longest front with which a text begins.
-use Rattle.std.proofs.Common.{◌≡◌, ◌⊎◌, ◌↔◌, ℕ, zero, suc, ◌<◌, ◌≤◌, List, [], ◌∷◌, ◌++◌, length, inl, inr, refl, sym, ap, subst, ◌∙◌, append_assoc, append-nil, length-append, arith}
-use Rattle.tg_rules.specs.Fault.{Begins, IsWrongAt, IsFault}
+use Rattle.std.proofs.Common.{◌≡◌, ◌⊎◌, ◌↔◌, ◌≤◌, List, [], ◌∷◌, ◌++◌, length, inl, inr, refl, sym, ap, subst, ◌∙◌, append_assoc, append-nil, length-append, arith}
+use Rattle.tg_rules.specs.Fault.{Begins, IsWrongAt, IsFault, IsLongestFront}
 use Rattle.tg_rules.proofs.Firsts.{not_nothing, first_same, rest_same}
 
 -- of two fronts of the same tokens, one is a front of the other
@@ -66,17 +66,25 @@ module _ {T V : Type 0} (R : V → List T → Type 0) where
       ]
 
   -- and the longest front is where the fault is
-  pub at_longest : (ts p left : List T) → ts ≡ p ++ left → Begins R p → ((q rest : List T) → ts ≡ q ++ rest → Begins R q → length q ≤ length p)
-      → ((v : V) → R v ts → ⊥) → IsFault R ts p left
-  at_longest ts p [] e begins most none = (e, begins, λ v r. none v (subst (λ z. R v z) (sym (e ∙ append-nil p)) r))
-  at_longest ts p (t ∷ left) e begins most none =
-      (e, begins, λ more. let le = most (p ++ t ∷ []) left (e ∙ sym (append_assoc p (t ∷ []) left)) more in omega (arith, le, length-append p (t ∷ [])))
+  at_longest : (ts p left : List T) → ts ≡ p ++ left → IsLongestFront R ts p → ((v : V) → R v ts → ⊥) → IsWrongAt R p left
+  at_longest ts p [] e most none = λ v r. none v (subst (λ z. R v z) (sym (e ∙ append-nil p)) r)
+  at_longest ts p (t ∷ left) e most none =
+      λ begins. let le = most.1 (p ++ t ∷ []) left (e ∙ sym (append_assoc p (t ∷ []) left)) begins in omega (arith, le, length-append p (t ∷ []))
+
+  pub fault_is_longest : (ts p left : List T) → ts ≡ p ++ left → IsFault R ts p left ↔ (IsLongestFront R ts p × ((v : V) → ¬ R v ts))
+  fault_is_longest ts p left e = (
+    λ h. ((h.1, λ q rest e2 begins. longest ts p left q rest h e2 begins), λ v r. not_both v ts p left r h),
+    λ h. (e, h.0.0, at_longest ts p left e h.0 h.1),
+  )
 
 -- relations with the same texts have the same faults
 module _ {T V : Type 0} (R S : V → List T → Type 0) (same : (v : V) (ts : List T) → R v ts ↔ S v ts) where
   begins_also : (p : List T) → Begins R p ↔ Begins S p
   begins_also p = (λ h. (h.0, h.1, (same h.1 (p ++ h.0)).0 h.2), λ h. (h.0, h.1, (same h.1 (p ++ h.0)).1 h.2))
 
+  wrong_also : (p left : List T) → IsWrongAt R p left → IsWrongAt S p left
+  wrong_also p [] wrong = λ v s. wrong v ((same v p).1 s)
+  wrong_also p (t ∷ left) wrong = λ more. wrong ((begins_also (p ++ t ∷ [])).1 more)
+
   pub fault_also : (ts p left : List T) → IsFault R ts p left → IsFault S ts p left
-  fault_also ts p [] (e, begins, wrong) = (e, (begins_also p).0 begins, λ v s. wrong v ((same v p).1 s))
-  fault_also ts p (t ∷ left) (e, begins, wrong) = (e, (begins_also p).0 begins, λ more. wrong ((begins_also (p ++ t ∷ [])).1 more))
+  fault_also ts p left (e, begins, wrong) = (e, (begins_also p).0 begins, wrong_also p left wrong)

@@ -1,8 +1,8 @@
 -- What the reader reads is a text.
-use Rattle.std.proofs.Common.{◌≡◌, ◌⊎◌, ℕ, zero, suc, Bool, true, false, Option, Some, None, List, [], ◌∷◌, ◌++◌, inl, inr, refl, sym, ap, subst, ◌∙◌, append_assoc, if◌then◌else◌}
+use Rattle.std.proofs.Common.{◌≡◌, ◌⊎◌, ℕ, zero, suc, true, Some, None, List, [], ◌∷◌, ◌++◌, inl, inr, refl, sym, ap, subst, ◌∙◌, append_assoc}
 use Rattle.std.proofs.lemmas.Bool.{cases_Bool}
 use Rattle.tg_rules.specs.Rule.{Rule, tok, nt, seq, alt, opt, act, has}
-use Rattle.tg_rules.specs.Texts.{Is, Within, Reads}
+use Rattle.tg_rules.specs.Texts.{Is, Within}
 use Rattle.tg_rules.specs.Foresight.{Foresight, first_of}
 use Rattle.tg_rules.specs.Reader.{Read, ok, err, out, mapped, followed, starts, token_at, read_in, read_within}
 

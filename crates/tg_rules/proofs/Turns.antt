@@ -1,8 +1,8 @@
 -- The turns are enough: more of them change nothing, and they don't run out. So a part is read as its rule says.
-use Rattle.std.proofs.Common.{◌≡◌, ◌⊎◌, ℕ, zero, suc, ◌+◌, ◌*◌, ◌<◌, ◌≤◌, Bool, true, false, not, ◌&&◌, ◌||◌, nat_lt, Option, Some, None, List, [], ◌∷◌, ◌++◌, length, inl, inr, refl, sym, ap, subst, ◌∙◌, if◌then◌else◌, arith, length-append}
-use Rattle.std.proofs.lemmas.Bool.{cases_Bool, and_parts, and_from, or_right, or_cases, not-true, ltb-true}
+use Rattle.std.proofs.Common.{◌≡◌, ◌⊎◌, ℕ, zero, suc, ◌+◌, ◌*◌, ◌<◌, ◌≤◌, Bool, true, false, not, ◌||◌, nat_lt, Some, None, List, [], ◌∷◌, ◌++◌, length, inl, inr, refl, sym, ap, ◌∙◌, if◌then◌else◌, arith, length-append}
+use Rattle.std.proofs.lemmas.Bool.{and_parts, and_from, or_right, or_cases, not-true, ltb-true}
 use Rattle.tg_rules.specs.Rule.{Rule, tok, nt, seq, alt, opt, act, has}
-use Rattle.tg_rules.specs.Texts.{Is, Within, Reads}
+use Rattle.tg_rules.specs.Texts.{Is, Reads}
 use Rattle.tg_rules.specs.Foresight.{Foresight, rank_limit, empty_of, first_of, agrees, below}
 use Rattle.tg_rules.specs.Reader.{Read, ok, err, out, mapped, followed, starts, token_at, read_in, read_within, read}
 use Rattle.tg_rules.proofs.NextToken.{clash}
@@ -43,7 +43,6 @@ module _ {T : Type 0} (kind : T → ℕ) {N : Type 0} {Val : N → Type 0} (f : 
     (sound_call : (n : N) (ts : List T) (v : Val n) (rest : List T) → call n ts ≡ ok v rest → (p : List T) × R n v p × (ts ≡ p ++ rest)) where
   abbrev pub AgreeBelow : ℕ → ℕ → Type 0
   AgreeBelow size r = (n : N) (ts : List T) → (length ts < size) ⊎ ((length ts ≤ size) × (f.rank n < r)) → Agree (call n ts) (call' n ts)
-
 
   -- what is left is no longer, and shorter where a token must have been read
   left_is_less : {A : Type 0} (g : Rule T N Val A) (ts rest : List T) (a : A) → read_in kind f call g ts ≡ ok a rest → length rest ≤ length ts

@@ -1,15 +1,16 @@
 -- The laws of a grammar all of whose parts pass: what `read` reads is exactly what the rules say, and a fault is where no text
 -- goes on.
-use Rattle.std.proofs.Common.{◌≡◌, ◌⊎◌, ℕ, zero, suc, ◌+◌, ◌*◌, ◌<◌, ◌≤◌, Bool, true, false, ◌&&◌, nat_lt, List, [], ◌∷◌, ◌++◌, length, inl, inr, refl, sym, ap, subst, ◌∙◌, append_assoc, append-nil, arith}
+use Rattle.std.proofs.Common.{◌≡◌, ◌⊎◌, ℕ, ◌+◌, ◌*◌, ◌<◌, ◌≤◌, true, false, nat_lt, List, [], ◌∷◌, ◌++◌, length, inl, inr, refl, sym, ap, subst, ◌∙◌, append_assoc, append-nil, length-append, arith}
 use Rattle.std.proofs.lemmas.Bool.{and_parts, ltb-true}
 use Rattle.tg_rules.specs.Rule.{Rule}
-use Rattle.tg_rules.specs.Texts.{Is, Within, Reads}
+use Rattle.tg_rules.specs.Texts.{Reads}
 use Rattle.tg_rules.specs.Fault.{Begins, IsWrongAt, IsFault}
 use Rattle.tg_rules.specs.Foresight.{Foresight, rank_limit, fits, agrees, below, spelled}
 use Rattle.tg_rules.specs.Reader.{Read, ok, err, out, is_whole, starts, read_in, read_within, read, passes}
 use Rattle.tg_rules.proofs.Sound.{sound_within, same_value, same_rest, ok_or_err}
 use Rattle.tg_rules.proofs.Complete.{complete_within}
 use Rattle.tg_rules.proofs.Heights.{taller}
+use Rattle.tg_rules.proofs.Places.{fronts}
 use Rattle.tg_rules.proofs.Turns.{as_read, reads_rule}
 use Rattle.tg_rules.proofs.Completions.{viable_within}
 use Rattle.tg_rules.proofs.Locality.{Local, goes, stops, past, left_of, local_within}
@@ -24,10 +25,10 @@ module _ {T : Type 0} where
   -- what leaves `t` for one text isn't a whole text for another that has `t` there
   no_whole : {A : Type 0} (t : T) (r c : List T) (x y : Read T A) (w : A) → Local t r c x y → length r < left_of x → y ≡ ok w [] → ⊥
   no_whole t r c x y w (goes v q e1 e2) less e = absurd (nothing q (same_rest y v w (q ++ t ∷ c) [] e2 e))
-      where
-        nothing : (q : List T) → q ++ t ∷ c ≡ [] → ⊥
-        nothing [] h = cc
-        nothing (s ∷ q) h = cc
+    where
+      nothing : (q : List T) → q ++ t ∷ c ≡ [] → ⊥
+      nothing [] h = cc
+      nothing (s ∷ q) h = cc
   no_whole t r c x y w (stops q e1 e2) less e = ok_or_err y w [] (q ++ t ∷ c) e e2
   no_whole t r c x y w (past le) less e = omega (arith, le, less)
 
@@ -136,3 +137,23 @@ module _ {T : Type 0} (kind : T → ℕ) {N : Type 0} {Val : N → Type 0} (rule
 
   pub text_or_fault : (n : N) (ts : List T) → ((v : Val n) × Reads kind rule n v ts) ⊎ ((p : List T) × (left : List T) × IsFault (Reads kind rule n) ts p left)
   text_or_fault n ts = by_reading n ts (read kind f rule n ts) refl
+
+  -- the same with a front that is known
+  same_front : (p q left : List T) → p ++ left ≡ q ++ left → p ≡ q
+  same_front p q left e =
+      elim (fronts p q left left e) [
+        | inl same ↦ same.0
+        | inr (inl (t, s, rest, longer, l)) ↦ absurd (omega (arith, ap length e, ap length longer, length-append p left, length-append q left, length-append p (t ∷ s)))
+        | inr (inr (t, s, rest, longer, l)) ↦ absurd (omega (arith, ap length e, ap length longer, length-append p left, length-append q left, length-append q (t ∷ s)))
+      ]
+
+  pub fault_at : (n : N) (front left : List T) → read kind f rule n (front ++ left) ≡ err left → IsFault (Reads kind rule n) (front ++ left) front left
+  fault_at n front left e =
+      let (p, h) = fault_read n (front ++ left) left e in
+      subst (λ z. IsFault (Reads kind rule n) (front ++ left) z left) (sym (same_front front p left h.0)) h
+
+  pub fault_before : (n : N) (front : List T) (v : Val n) (t : T) (left : List T) → read kind f rule n (front ++ t ∷ left) ≡ ok v (t ∷ left)
+      → IsFault (Reads kind rule n) (front ++ t ∷ left) front (t ∷ left)
+  fault_before n front v t left e =
+      let (p, h) = fault_behind n (front ++ t ∷ left) v t left e in
+      subst (λ z. IsFault (Reads kind rule n) (front ++ t ∷ left) z (t ∷ left)) (sym (same_front front p (t ∷ left) h.0)) h

@@ -1,5 +1,5 @@
 -- Reading a part from the front of some tokens, with one token of foresight.
-use Rattle.std.specs.Prelude.{ℕ, zero, suc, ◌+◌, ◌*◌, Bool, true, false, ◌&&◌, nat_lt, if◌then◌else◌, Option, Some, None, List, [], ◌∷◌, length}
+use Rattle.std.specs.Prelude.{ℕ, zero, suc, ◌+◌, ◌*◌, Bool, true, false, ◌&&◌, nat_lt, if◌then◌else◌, Some, None, List, [], ◌∷◌, length}
 use Rattle.tg_rules.specs.Rule.{Rule, tok, nt, seq, alt, opt, act, has}
 use Rattle.tg_rules.specs.Foresight.{Foresight, rank_limit, first_of, fits, agrees, below, spelled}
 

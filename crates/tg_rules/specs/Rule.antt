@@ -1,11 +1,10 @@
 -- A grammar as a value: each part has one rule, and a rule says of which tokens and parts a text is put together, and which
 -- value it means. `T` are the tokens, `N` the parts, and `Val n` the values of the part `n`.
-use Rattle.std.specs.Prelude.{ℕ, Bool, true, false, ◌||◌, nat_eq, Option, List, [], ◌∷◌}
+use Rattle.std.specs.Prelude.{ℕ, Bool, false, ◌||◌, nat_eq, Option, List, [], ◌∷◌}
 
 infixr 60 ◌∙∙◌
 infixr 60 ◌▸◌
 infixl 65 ◌◂◌
-
 pub data Rule (T : Type 0) (N : Type 0) (Val : N → Type 0) : Type 0 → Type 1 where
   -- one token, of this kind or of one of these
   tok : ℕ → List ℕ → Rule T N Val T

@@ -1,5 +1,5 @@
 -- What a text of a rule is, and its value: no reader stands here, only rules.
-use Rattle.std.specs.Prelude.{◌≡◌, ℕ, zero, suc, true, Option, Some, None, List, [], ◌∷◌, ◌++◌, ◌⊎◌}
+use Rattle.std.specs.Prelude.{◌≡◌, ℕ, zero, suc, true, Some, None, List, [], ◌∷◌, ◌++◌, ◌⊎◌}
 use Rattle.tg_rules.specs.Rule.{Rule, tok, nt, seq, alt, opt, act, has}
 
 module _ {T : Type 0} (kind : T → ℕ) {N : Type 0} {Val : N → Type 0} where
