@@ -1,4 +1,4 @@
-pub mod Fits
 pub mod TextParts
 pub mod FromPage
 pub mod ToPage
+pub mod Readings

@@ -8,3 +8,5 @@ pub mod Table
 pub mod First
 pub mod Samples
 pub mod Reading
+pub mod Passing
+pub mod Laws
