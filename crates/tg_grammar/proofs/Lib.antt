@@ -2,3 +2,4 @@ pub mod TextParts
 pub mod FromPage
 pub mod ToPage
 pub mod Readings
+mod KnownReadings

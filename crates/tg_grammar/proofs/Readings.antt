@@ -1,12 +1,12 @@
 -- The laws of reading, which hold of the table, said of the page.
-use Rattle.std.proofs.Common.{◌≡◌, ◌⊎◌, ◌↔◌, List, [], ◌∷◌, ◌++◌, inl, inr}
+use Rattle.std.proofs.Common.{List, ◌∷◌, ◌++◌, inl, inr}
 use Rattle.tg_rules.specs.Fault.{IsFault}
 use Rattle.tg_rules.specs.Laws.{HasOneReading, HasTextOrFault, HasNotBoth, HasOneFault, HasFaultAtLongest, HaveSameReadings}
 use Rattle.tg_rules.specs.Texts.{Reads}
 use Rattle.tg_rules.proofs.Places as places
 use Rattle.tg_rules.proofs.Whole as whole
 use Rattle.tg_grammar.specs.Seen.{Seen}
-use Rattle.tg_grammar.specs.Parts.{Part, Value}
+use Rattle.tg_grammar.specs.Parts.{Part}
 use Rattle.tg_grammar.specs.Page.{page}
 use Rattle.tg_grammar.specs.Table.{table}
 use Rattle.tg_grammar.specs.First.{foresight}

@@ -1,20 +1,14 @@
 -- What a text of a rule is put together from: a token before and behind, repetitions, types in brackets, connectives.
 use Rattle.std.proofs.lemmas.Bool.{cases_Bool, eqb-true}
-use Rattle.std.proofs.Common.{◌≡◌, ℕ, Bool, true, false, ◌||◌, nat_eq, ◌⊎◌, List, [], ◌∷◌, ◌++◌, Option, Some, None, inl, inr, refl, sym, ap, subst, ◌∙◌, append_assoc, append-nil}
-use Rattle.tg_rules.specs.Rule.{Rule, tok, nt, seq, alt, opt, act, has, ◌∙∙◌, ◌▸◌, ◌◂◌}
-use Rattle.tg_rules.specs.Texts.{Is, Reads}
-use Rattle.tg_rules.proofs.Heights.{by_rule, of_rule, reads_also}
+use Rattle.std.proofs.Common.{◌≡◌, ℕ, true, false, nat_eq, ◌⊎◌, List, [], ◌∷◌, ◌++◌, Option, Some, None, inl, inr, refl, sym, ap, subst, ◌∙◌, append_assoc}
+use Rattle.tg_rules.specs.Rule.{nt, has, ◌∙∙◌, ◌▸◌, ◌◂◌}
+use Rattle.tg_rules.specs.Texts.{Is}
 use Rattle.tg_grammar.specs.declared.types.RawTy.{RawTy}
-use Rattle.tg_grammar.specs.declared.terms.RawTerm.{RawTerm}
-use Rattle.tg_grammar.specs.declared.terms.RawTerm.TheVariants as terms
-use Rattle.tg_grammar.specs.declared.formulas.RawFormula.{RawFormula}
-use Rattle.tg_grammar.specs.declared.formulas.RawFormula.TheVariants as formulas
-use Rattle.tg_grammar.specs.Kinds.{open_paren, close_paren, comma, and, arrow, suc_word}
+use Rattle.tg_grammar.specs.Kinds.{close_paren, comma, and, arrow}
 use Rattle.tg_grammar.specs.Seen.{Seen}
-use Rattle.tg_grammar.specs.Parts.{Mode, Part, Value, WholeType, TypeAtom, MoreTypes, AfterType, Application, Atom, Atoms, PlainAtom, Answer, AnswerAtom, AnswerAtoms, PlainAnswer, Formula, MarkedFormula, InnerFormula}
-use Rattle.tg_grammar.specs.Making.{listed, applied, bracketed, connected}
-use Rattle.tg_grammar.specs.Page.{Grammar, word, many, page}
-use Rattle.tg_grammar.specs.Table.{table}
+use Rattle.tg_grammar.specs.Parts.{Part, Value, WholeType, MoreTypes}
+use Rattle.tg_grammar.specs.Making.{listed, applied, bracketed}
+use Rattle.tg_grammar.specs.Page.{Grammar, word, many}
 use Rattle.tg_grammar.specs.Reading.{kind}
 
 -- ---- a token before and behind

@@ -1,7 +1,6 @@
 -- A text by the table is one by the page, with the same value.
-use Rattle.std.proofs.lemmas.Bool.{cases_Bool, eqb-true}
-use Rattle.std.proofs.Common.{◌≡◌, ℕ, Bool, true, false, ◌||◌, nat_eq, ◌⊎◌, List, [], ◌∷◌, ◌++◌, Option, Some, None, inl, inr, refl, sym, ap, subst, ◌∙◌, append_assoc, append-nil}
-use Rattle.tg_rules.specs.Rule.{Rule, tok, nt, seq, alt, opt, act, has, ◌∙∙◌, ◌▸◌, ◌◂◌}
+use Rattle.std.proofs.Common.{◌≡◌, ℕ, true, List, [], ◌∷◌, ◌++◌, Option, Some, inl, inr, refl, sym, ap, subst, ◌∙◌, append_assoc, append-nil}
+use Rattle.tg_rules.specs.Rule.{nt, opt, has, ◌∙∙◌, ◌▸◌, ◌◂◌}
 use Rattle.tg_rules.specs.Texts.{Is, Reads}
 use Rattle.tg_rules.proofs.Heights.{by_rule, of_rule, reads_also}
 use Rattle.tg_grammar.specs.declared.types.RawTy.{RawTy}
@@ -9,14 +8,14 @@ use Rattle.tg_grammar.specs.declared.terms.RawTerm.{RawTerm}
 use Rattle.tg_grammar.specs.declared.terms.RawTerm.TheVariants as terms
 use Rattle.tg_grammar.specs.declared.formulas.RawFormula.{RawFormula}
 use Rattle.tg_grammar.specs.declared.formulas.RawFormula.TheVariants as formulas
-use Rattle.tg_grammar.specs.Kinds.{open_paren, close_paren, comma, and, arrow, suc_word}
+use Rattle.tg_grammar.specs.Kinds.{open_paren, close_paren, and, arrow}
 use Rattle.tg_grammar.specs.Seen.{Seen}
-use Rattle.tg_grammar.specs.Parts.{Mode, Part, Value, WholeType, TypeAtom, MoreTypes, AfterType, Application, Atom, Atoms, PlainAtom, Answer, AnswerAtom, AnswerAtoms, PlainAnswer, Formula, MarkedFormula, InnerFormula}
-use Rattle.tg_grammar.specs.Making.{listed, applied, bracketed, connected}
-use Rattle.tg_grammar.specs.Page.{Grammar, word, many, page}
+use Rattle.tg_grammar.specs.Parts.{Mode, Part, Value, WholeType, TypeAtom, AfterType, Application, Atom, Atoms, Answer, AnswerAtom, AnswerAtoms, Formula, MarkedFormula, InnerFormula}
+use Rattle.tg_grammar.specs.Making.{applied, bracketed, connected}
+use Rattle.tg_grammar.specs.Page.{word, page}
 use Rattle.tg_grammar.specs.Table.{table}
 use Rattle.tg_grammar.specs.Reading.{kind}
-use Rattle.tg_grammar.proofs.TextParts.{inside, opened, open_with, closed, close_with, same_type, enclosed, more_types, repeats, no_more, one_more, kind_is, which}
+use Rattle.tg_grammar.proofs.TextParts.{opened, open_with, closed, close_with, same_type, enclosed, more_types, repeats, kind_is, which}
 
 module _ where
   abbrev R : (n : Part) → Value n → List Seen → Type 0

@@ -10,3 +10,4 @@ pub mod Samples
 pub mod Reading
 pub mod Passing
 pub mod Laws
+pub mod KnownKinds

@@ -1,5 +1,5 @@
 -- What the grammar sees of a token.
-use Rattle.std.specs.Prelude.{ℕ, ◌+◌, Bool, false, ◌||◌, ◌==◌, if◌then◌else◌, List, [], ◌∷◌, map}
+use Rattle.std.specs.Prelude.{ℕ, ◌+◌, Bool, ◌||◌, ◌==◌, if◌then◌else◌, List, [], ◌∷◌, map}
 use Rattle.std.specs.Str.{bytes_eq}
 use Rattle.tg_tables.specs.Rows.{Entry}
 use Rattle.tg_lex.specs.declared.token.Kind.{Kind}
