@@ -91,15 +91,15 @@ page_recurs : below foresight 1 (page difference) ≡ false
 page_recurs = refl
 
 -- two sides that begin alike
-sides_meet : fits {T = Token} {Val = Meaning} foresight (alt (nt difference) (nt atom)) ≡ false
+sides_meet : fits {T = Token} {Value = Meaning} foresight (alt (nt difference) (nt atom)) ≡ false
 sides_meet = refl
 
 -- `-` goes on with the first part, and the second part begins with it
-parts_meet : fits {T = Token} {Val = Meaning} foresight (seq (nt difference) (nt further)) ≡ false
+parts_meet : fits {T = Token} {Value = Meaning} foresight (seq (nt difference) (nt further)) ≡ false
 parts_meet = refl
 
 -- nothing can be left out twice
-empty_choice : fits {T = Token} {Val = Meaning} foresight (opt (nt further)) ≡ false
+empty_choice : fits {T = Token} {Value = Meaning} foresight (opt (nt further)) ≡ false
 empty_choice = refl
 
 -- a kind was forgotten
