@@ -1,7 +1,7 @@
 -- A repetition is read by a loop: as long as the next token begins one more, one more is read.
 use Rattle.std.proofs.Common.{◌≡◌, Bool, true, false, Some, None, List, [], ◌∷◌, ◌++◌, refl, sym, ap, ◌∙◌, append_assoc, append-nil, if◌then◌else◌}
 use Rattle.tg_rules.specs.Reader.{Read, ok, err, out, mapped, followed}
-use Rattle.tg_rules.specs.Repetition.{listed, folded, with_front, fold_from}
+use Rattle.tg_rules.specs.Repetition.{listed, with_front, fold_from}
 
 module _ {T : Type 0} where
   longer_front : {A : Type 0} (front : List A) (a : A) (r : Read T (List A)) → with_front front (mapped (λ rest. a ∷ rest) r) ≡ with_front (front ++ a ∷ []) r

@@ -1,7 +1,7 @@
 -- A small grammar as an example: differences of numbers and of differences in brackets, grouped to the left.
 --   difference = atom { "-" atom }
 --   atom = number | "(" difference ")"
-use Rattle.std.specs.Prelude.{ℕ, zero, suc, Bool, true, false, Option, Some, None, List, [], ◌∷◌}
+use Rattle.std.specs.Prelude.{ℕ, zero, suc, Bool, true, false, List, [], ◌∷◌}
 use Rattle.tg_rules.specs.Rule.{Rule, tok, nt, alt, opt, act, ◌∙∙◌, ◌▸◌, ◌◂◌}
 use Rattle.tg_rules.specs.Foresight.{Foresight}
 use Rattle.tg_rules.specs.Repetition.{listed, folded}
