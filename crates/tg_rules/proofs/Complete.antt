@@ -13,10 +13,10 @@ module _ {T : Type 0} where
       → followed x next ≡ ok v rest
   followed_of {A} {B} x next v middle rest e1 e2 = ap (λ y. followed y next) e1 ∙ ap (mapped {B = A × B} (λ b. (v.0, b))) e2
 
-module _ {T : Type 0} (kind : T → ℕ) {N : Type 0} {Val : N → Type 0} (f : Foresight N) (R : (n : N) → Val n → List T → Type 0) (seen : IsForeseen kind f R)
-    (call : (n : N) → List T → Read T (Val n)) (complete_call : (n : N) (v : Val n) (p y : List T) → R n v p → starts kind (f.more n) y ≡ false → call n (p ++ y) ≡ ok v y) where
+module _ {T : Type 0} (kind : T → ℕ) {N : Type 0} {Value : N → Type 0} (f : Foresight N) (R : (n : N) → Value n → List T → Type 0) (seen : IsForeseen kind f R)
+    (call : (n : N) → List T → Read T (Value n)) (complete_call : (n : N) (v : Value n) (p y : List T) → R n v p → starts kind (f.more n) y ≡ false → call n (p ++ y) ≡ ok v y) where
   -- what stands behind a sequence doesn't go on with its second part
-  behind_second : {A B : Type 0} (g : Rule T N Val A) (h : Rule T N Val B) (y : List T) → starts kind (more_of f (seq g h)) y ≡ false → starts kind (more_of f h) y ≡ false
+  behind_second : {A B : Type 0} (g : Rule T N Value A) (h : Rule T N Value B) (y : List T) → starts kind (more_of f (seq g h)) y ≡ false → starts kind (more_of f h) y ≡ false
   behind_second g h y e =
       elim (cases_Bool (empty_of f h)) [
         | inl is ↦ (starts_neither kind (more_of f g) (more_of f h) y (rw is at e)).1
@@ -24,14 +24,14 @@ module _ {T : Type 0} (kind : T → ℕ) {N : Type 0} {Val : N → Type 0} (f : 
       ]
 
   -- and what stands behind its first part doesn't go on with that
-  behind_first : {A B : Type 0} (g : Rule T N Val A) (h : Rule T N Val B) (v : B) (q y : List T) → apart (more_of f g) (first_of f h) ≡ true → Is kind R h v q
+  behind_first : {A B : Type 0} (g : Rule T N Value A) (h : Rule T N Value B) (v : B) (q y : List T) → apart (more_of f g) (first_of f h) ≡ true → Is kind R h v q
       → starts kind (more_of f (seq g h)) y ≡ false → starts kind (more_of f g) (q ++ y) ≡ false
   behind_first g h v [] y far is e =
       let empty = empty_text kind f R seen h v is in
       (starts_neither kind (more_of f g) (more_of f h) y (rw empty at e)).0
   behind_first g h v (t ∷ q) y far is e = starts_apart kind (more_of f g) (first_of f h) (t ∷ (q ++ y)) far (first_token kind f R seen h v t q is)
 
-  pub complete : {A : Type 0} (g : Rule T N Val A) (v : A) (p y : List T) → fits f g ≡ true → Is kind R g v p → starts kind (more_of f g) y ≡ false
+  pub complete : {A : Type 0} (g : Rule T N Value A) (v : A) (p y : List T) → fits f g ≡ true → Is kind R g v p → starts kind (more_of f g) y ≡ false
       → read_in kind f call g (p ++ y) ≡ ok v y
   complete (tok k ks) v p y fit is e = rw (is.1, is.0) refl
   complete (nt n) v p y fit is e = complete_call n v p y is e
@@ -65,9 +65,9 @@ module _ {T : Type 0} (kind : T → ℕ) {N : Type 0} {Val : N → Type 0} (f : 
       (ap (mapped Some) (complete g a p y fit1 h (starts_neither kind (first_of f g) (more_of f g) y e).1))
   complete (act make g) v p y fit (a, same, h) e = rw same (ap (mapped make) (complete g a p y fit h e))
 
-module _ {T : Type 0} (kind : T → ℕ) {N : Type 0} {Val : N → Type 0} (rule : (n : N) → Rule T N Val (Val n)) (f : Foresight N)
+module _ {T : Type 0} (kind : T → ℕ) {N : Type 0} {Value : N → Type 0} (rule : (n : N) → Rule T N Value (Value n)) (f : Foresight N)
     (fit : (n : N) → fits f (rule n) ≡ true) (agree : (n : N) → agrees f n (rule n) ≡ true) where
-  pub complete_within : (h : ℕ) (n : N) (v : Val n) (p y : List T) → Within kind rule h n v p → starts kind (f.more n) y ≡ false → read_within kind f rule h n (p ++ y) ≡ ok v y
+  pub complete_within : (h : ℕ) (n : N) (v : Value n) (p y : List T) → Within kind rule h n v p → starts kind (f.more n) y ≡ false → read_within kind f rule h n (p ++ y) ≡ ok v y
   complete_within zero n v p y w e = absurd w
   complete_within (suc h) n v p y w e =
       complete kind f (Within kind rule h) (foreseen_within kind rule f agree h) (read_within kind f rule h) (complete_within h) (rule n) v p y (fit n) w

@@ -17,9 +17,9 @@ module _ {T : Type 0} where
   at_token kind ks [] left e = same_fault (token_at kind ks []) [] left refl e
   at_token kind ks (t ∷ ts) left e = token_fault (has ks (kind t)) t ts left e
 
-module _ {T : Type 0} (kind : T → ℕ) {N : Type 0} {Val : N → Type 0} (f : Foresight N) (R : (n : N) → Val n → List T → Type 0) (token : ℕ → T)
-    (text : (n : N) → (v : Val n) × (p : List T) × R n v p) where
-  some_text : {A : Type 0} (g : Rule T N Val A) → spelled kind token g ≡ true → (v : A) × (p : List T) × Is kind R g v p
+module _ {T : Type 0} (kind : T → ℕ) {N : Type 0} {Value : N → Type 0} (f : Foresight N) (R : (n : N) → Value n → List T → Type 0) (token : ℕ → T)
+    (text : (n : N) → (v : Value n) × (p : List T) × R n v p) where
+  some_text : {A : Type 0} (g : Rule T N Value A) → spelled kind token g ≡ true → (v : A) × (p : List T) × Is kind R g v p
   some_text (tok k ks) s = (token k, token k ∷ [], (s, refl))
   some_text (nt n) s = text n
   some_text (seq g h) s =
@@ -35,13 +35,13 @@ module _ {T : Type 0} (kind : T → ℕ) {N : Type 0} {Val : N → Type 0} (f : 
   some_text (act make g) s = let (v, p, a) = some_text g s in (make v, p, (v, refl, a))
 
   -- up to where `left` begins, a text of the rule begins so
-  abbrev pub IsViable : {A : Type 0} → Rule T N Val A → List T → List T → Type 0
+  abbrev pub IsViable : {A : Type 0} → Rule T N Value A → List T → List T → Type 0
   IsViable {A} g ts left = (p : List T) × (rest : List T) × (v : A) × Is kind R g v (p ++ rest) × (ts ≡ p ++ left)
 
-  module _ (call : (n : N) → List T → Read T (Val n))
-      (sound_call : (n : N) (ts : List T) (v : Val n) (rest : List T) → call n ts ≡ ok v rest → (p : List T) × R n v p × (ts ≡ p ++ rest))
-      (viable_call : (n : N) (ts left : List T) → call n ts ≡ err left → (p : List T) × (rest : List T) × (v : Val n) × R n v (p ++ rest) × (ts ≡ p ++ left)) where
-    pub viable : {A : Type 0} (g : Rule T N Val A) → spelled kind token g ≡ true → (ts left : List T) → read_in kind f call g ts ≡ err left → IsViable g ts left
+  module _ (call : (n : N) → List T → Read T (Value n))
+      (sound_call : (n : N) (ts : List T) (v : Value n) (rest : List T) → call n ts ≡ ok v rest → (p : List T) × R n v p × (ts ≡ p ++ rest))
+      (viable_call : (n : N) (ts left : List T) → call n ts ≡ err left → (p : List T) × (rest : List T) × (v : Value n) × R n v (p ++ rest) × (ts ≡ p ++ left)) where
+    pub viable : {A : Type 0} (g : Rule T N Value A) → spelled kind token g ≡ true → (ts left : List T) → read_in kind f call g ts ≡ err left → IsViable g ts left
     viable (tok k ks) s ts left e = ([], token k ∷ [], token k, (s, refl), at_token kind (k ∷ ks) ts left e)
     viable (nt n) s ts left e = viable_call n ts left e
     viable (seq g h) s ts left e =
@@ -73,14 +73,14 @@ module _ {T : Type 0} (kind : T → ℕ) {N : Type 0} {Val : N → Type 0} (f : 
         let (p, rest, v, a, same) = viable g s ts left (mapped_err make (read_in kind f call g ts) left e) in
         (p, rest, make v, (v, refl, a), same)
 
-module _ {T : Type 0} (kind : T → ℕ) {N : Type 0} {Val : N → Type 0} (rule : (n : N) → Rule T N Val (Val n)) (f : Foresight N) (token : ℕ → T)
-    (spells : (n : N) → spelled kind token (rule n) ≡ true) (text : (n : N) → (v : Val n) × (p : List T) × Reads kind rule n v p) where
-  sound_reads : (h : ℕ) (n : N) (ts : List T) (v : Val n) (rest : List T) → read_within kind f rule h n ts ≡ ok v rest
+module _ {T : Type 0} (kind : T → ℕ) {N : Type 0} {Value : N → Type 0} (rule : (n : N) → Rule T N Value (Value n)) (f : Foresight N) (token : ℕ → T)
+    (spells : (n : N) → spelled kind token (rule n) ≡ true) (text : (n : N) → (v : Value n) × (p : List T) × Reads kind rule n v p) where
+  sound_reads : (h : ℕ) (n : N) (ts : List T) (v : Value n) (rest : List T) → read_within kind f rule h n ts ≡ ok v rest
       → (p : List T) × Reads kind rule n v p × (ts ≡ p ++ rest)
   sound_reads h n ts v rest e = let (p, w, same) = sound_within kind rule f h n ts v rest e in (p, (h, w), same)
 
   pub viable_within : (h : ℕ) (n : N) (ts left : List T) → read_within kind f rule h n ts ≡ err left
-      → (p : List T) × (rest : List T) × (v : Val n) × Reads kind rule n v (p ++ rest) × (ts ≡ p ++ left)
+      → (p : List T) × (rest : List T) × (v : Value n) × Reads kind rule n v (p ++ rest) × (ts ≡ p ++ left)
   viable_within zero n ts left e = absurd (err_or_out out left e refl)
   viable_within (suc h) n ts left e =
       let (p, rest, v, a, same) = viable kind f (Reads kind rule) token text (read_within kind f rule h) (sound_reads h) (viable_within h) (rule n) (spells n) ts left e in

@@ -3,7 +3,8 @@
 use Rattle.std.proofs.Common.{◌≡◌, ◌⊎◌, ◌↔◌, Some, None, List, [], ◌∷◌, ◌++◌, inl, inr, refl, sym, ap, subst, ◌∙◌, append_assoc, append-nil}
 use Rattle.tg_rules.specs.Rule.{Rule, nt, ◌▸◌}
 use Rattle.tg_rules.specs.Texts.{Is, Reads}
-use Rattle.tg_rules.specs.Differences.{Token, kind, Tree, less, Part, difference, further, atom, Meaning, grouped, listed, rule, page}
+use Rattle.tg_rules.specs.Differences.{Token, kind, Tree, less, Part, difference, further, atom, Meaning, grouped, rule, page}
+use Rattle.tg_rules.specs.Repetition.{listed}
 use Rattle.tg_rules.proofs.Firsts.{first_same, rest_same}
 use Rattle.tg_rules.proofs.Heights.{by_rule, of_rule, reads_also}
 

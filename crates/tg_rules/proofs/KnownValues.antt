@@ -1,14 +1,15 @@
 -- What is known of the example by hand, said of the definitions, so that a slip in one of them doesn't check.
-use Rattle.std.proofs.Common.{◌≡◌, false, Some, None, List, [], ◌∷◌, refl, inl, inr}
-use Rattle.tg_rules.specs.Rule.{nt, seq, alt, opt}
+use Rattle.std.proofs.Common.{◌≡◌, ℕ, ◌-◌, false, Some, None, List, [], ◌∷◌, refl, inl, inr, if◌then◌else◌}
+use Rattle.tg_rules.specs.Rule.{nt, seq, alt, opt, ◌▸◌}
 use Rattle.tg_rules.specs.Texts.{Reads}
 use Rattle.tg_rules.specs.Fault.{IsFault}
 use Rattle.tg_rules.specs.Foresight.{fits, below, agrees, spelled}
-use Rattle.tg_rules.specs.Reader.{Read, ok, read, passes}
+use Rattle.tg_rules.specs.Reader.{Read, ok, mapped, followed, starts, read_in, read, passes}
+use Rattle.tg_rules.specs.Repetition.{listed, with_front, fold_from}
 use Rattle.tg_rules.specs.Differences.{Token, number, minus, open_bracket, close_bracket, kind, Tree, leaf, less, difference, further, atom, Meaning, rule, page, foresight, token, sample}
 use Rattle.tg_rules.specs.Passing.{all_pass}
 use Rattle.tg_rules.proofs.Places.{not_both}
-use Rattle.tg_rules.proofs.Whole.{whole_read, one_reading, fault_at, fault_before}
+use Rattle.tg_rules.proofs.Whole.{read_is, whole_read, one_reading, fault_at, fault_before}
 
 abbrev one : Token
 one = number 1
@@ -46,6 +47,18 @@ brackets_alone = refl
 minus_two : Reads kind rule further (leaf 2 ∷ []) (minus ∷ two ∷ [])
 minus_two =
     (2, (Some (leaf 2, []), refl, inr ((leaf 2, []), refl, (minus ∷ two ∷ [], [], ((minus, leaf 2), refl, (minus ∷ [], two ∷ [], (refl, refl), inl (two, refl, (refl, refl)), refl)), (None, refl, inl (refl, refl)), refl))))
+
+-- what follows an operand is a repetition, so a loop reads it
+further_repeats : (ts : List Token) → read kind foresight rule further ts
+    ≡ mapped listed (if starts kind (2 ∷ []) ts then mapped Some (followed (read_in kind foresight (read kind foresight rule) (2 ▸ nt atom) ts) (read kind foresight rule further)) else ok None ts)
+further_repeats ts = read_is kind rule foresight token sample all_pass further ts
+
+-- a list that was read in part, and a fold that has come to 5
+front_kept : with_front {A = ℕ} (1 ∷ 2 ∷ []) (ok (3 ∷ []) (minus ∷ [])) ≡ ok (1 ∷ 2 ∷ 3 ∷ []) (minus ∷ [])
+front_kept = refl
+
+fold_kept : fold_from {A = ℕ} (λ (a b : ℕ). a - b) 5 (ok (1 ∷ 2 ∷ []) (minus ∷ [])) ≡ ok 2 (minus ∷ [])
+fold_kept = refl
 
 -- ---- where no text goes on
 
@@ -91,15 +104,15 @@ page_recurs : below foresight 1 (page difference) ≡ false
 page_recurs = refl
 
 -- two sides that begin alike
-sides_meet : fits {T = Token} {Val = Meaning} foresight (alt (nt difference) (nt atom)) ≡ false
+sides_meet : fits {T = Token} {Value = Meaning} foresight (alt (nt difference) (nt atom)) ≡ false
 sides_meet = refl
 
 -- `-` goes on with the first part, and the second part begins with it
-parts_meet : fits {T = Token} {Val = Meaning} foresight (seq (nt difference) (nt further)) ≡ false
+parts_meet : fits {T = Token} {Value = Meaning} foresight (seq (nt difference) (nt further)) ≡ false
 parts_meet = refl
 
 -- nothing can be left out twice
-empty_choice : fits {T = Token} {Val = Meaning} foresight (opt (nt further)) ≡ false
+empty_choice : fits {T = Token} {Value = Meaning} foresight (opt (nt further)) ≡ false
 empty_choice = refl
 
 -- a kind was forgotten

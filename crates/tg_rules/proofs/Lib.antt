@@ -10,3 +10,4 @@ pub mod Places
 pub mod Whole
 pub mod KnownValues
 pub mod ExamplePages
+pub mod Repetition

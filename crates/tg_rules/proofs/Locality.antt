@@ -63,7 +63,7 @@ module _ {T : Type 0} (t : T) (r c : List T) where
   starts_same kind ks [] = refl
   starts_same kind ks (s ∷ q) = refl
 
-module _ {T : Type 0} (kind : T → ℕ) {N : Type 0} {Val : N → Type 0} (f : Foresight N) (call : (n : N) → List T → Read T (Val n))
+module _ {T : Type 0} (kind : T → ℕ) {N : Type 0} {Value : N → Type 0} (f : Foresight N) (call : (n : N) → List T → Read T (Value n))
     (less_call : (n : N) (ts : List T) → left_of (call n ts) ≤ length ts) where
   chosen_less : {A : Type 0} (b : Bool) (x y : Read T A) (n : ℕ) → left_of x ≤ n → left_of y ≤ n → left_of (if b then x else y) ≤ n
   chosen_less true x y n p q = p
@@ -76,7 +76,7 @@ module _ {T : Type 0} (kind : T → ℕ) {N : Type 0} {Val : N → Type 0} (f : 
   mapped_less : {A B : Type 0} (make : A → B) (x : Read T A) (n : ℕ) → left_of x ≤ n → left_of (mapped make x) ≤ n
   mapped_less make x n le = subst (λ k. k ≤ n) (sym (mapped_left make x)) le
 
-  pub less_left : {A : Type 0} (g : Rule T N Val A) (ts : List T) → left_of (read_in kind f call g ts) ≤ length ts
+  pub less_left : {A : Type 0} (g : Rule T N Value A) (ts : List T) → left_of (read_in kind f call g ts) ≤ length ts
   less_left (tok k ks) ts = token_less (k ∷ ks) ts
   less_left (nt n) ts = less_call n ts
   less_left (seq g h) ts = followed_left (read_in kind f call g ts) (read_in kind f call h) (length ts) (less_left g ts) (less_left h)
@@ -87,7 +87,7 @@ module _ {T : Type 0} (kind : T → ℕ) {N : Type 0} {Val : N → Type 0} (f : 
   less_left (act make g) ts = mapped_less make (read_in kind f call g ts) (length ts) (less_left g ts)
 
   module _ (t : T) (r c : List T) (local_call : (n : N) (q : List T) → Local t r c (call n (q ++ t ∷ r)) (call n (q ++ t ∷ c))) where
-    pub local : {A : Type 0} (g : Rule T N Val A) (q : List T) → Local t r c (read_in kind f call g (q ++ t ∷ r)) (read_in kind f call g (q ++ t ∷ c))
+    pub local : {A : Type 0} (g : Rule T N Value A) (q : List T) → Local t r c (read_in kind f call g (q ++ t ∷ r)) (read_in kind f call g (q ++ t ∷ c))
     local (tok k ks) q = token_local t r c kind (k ∷ ks) q
     local (nt n) q = local_call n q
     local (seq g h) q = followed_local t r c (read_in kind f call g (q ++ t ∷ r)) (read_in kind f call g (q ++ t ∷ c)) (read_in kind f call h) (local g q) (local h) (less_left h)
@@ -102,7 +102,7 @@ module _ {T : Type 0} (kind : T → ℕ) {N : Type 0} {Val : N → Type 0} (f : 
         (mapped_local t r c Some (read_in kind f call g (q ++ t ∷ r)) (read_in kind f call g (q ++ t ∷ c)) (local g q)) (goes None q refl refl))
     local (act make g) q = mapped_local t r c make (read_in kind f call g (q ++ t ∷ r)) (read_in kind f call g (q ++ t ∷ c)) (local g q)
 
-module _ {T : Type 0} (kind : T → ℕ) {N : Type 0} {Val : N → Type 0} (rule : (n : N) → Rule T N Val (Val n)) (f : Foresight N) where
+module _ {T : Type 0} (kind : T → ℕ) {N : Type 0} {Value : N → Type 0} (rule : (n : N) → Rule T N Value (Value n)) (f : Foresight N) where
   less_within : (h : ℕ) (n : N) (ts : List T) → left_of (read_within kind f rule h n ts) ≤ length ts
   less_within zero n ts = omega arith
   less_within (suc h) n ts = less_left kind f (read_within kind f rule h) (less_within h) (rule n) ts

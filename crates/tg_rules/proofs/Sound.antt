@@ -56,8 +56,8 @@ module _ {T : Type 0} where
   followed_err (err r) next rest e = inl (ap err (same_fault (followed (err r) next) r rest refl e))
   followed_err out next rest e = absurd (err_or_out (followed out next) rest e refl)
 
-module _ {T : Type 0} (kind : T → ℕ) {N : Type 0} {Val : N → Type 0} (f : Foresight N) (R : (n : N) → Val n → List T → Type 0)
-    (call : (n : N) → List T → Read T (Val n)) (sound_call : (n : N) (ts : List T) (v : Val n) (rest : List T) → call n ts ≡ ok v rest → (p : List T) × R n v p × (ts ≡ p ++ rest)) where
+module _ {T : Type 0} (kind : T → ℕ) {N : Type 0} {Value : N → Type 0} (f : Foresight N) (R : (n : N) → Value n → List T → Type 0)
+    (call : (n : N) → List T → Read T (Value n)) (sound_call : (n : N) (ts : List T) (v : Value n) (rest : List T) → call n ts ≡ ok v rest → (p : List T) × R n v p × (ts ≡ p ++ rest)) where
   token_sound : (ks : List ℕ) (t : T) (ts : List T) (v : T) (rest : List T) → token_at kind ks (t ∷ ts) ≡ ok v rest → (has ks (kind v) ≡ true) × (t ∷ ts ≡ v ∷ rest)
   token_sound ks t ts v rest e =
       elim (cases_Bool (has ks (kind t))) [
@@ -69,7 +69,7 @@ module _ {T : Type 0} (kind : T → ℕ) {N : Type 0} {Val : N → Type 0} (f : 
         | inr isnt ↦ let failed : err (t ∷ ts) ≡ ok v rest = rw isnt at e in absurd (ok_or_err (err (t ∷ ts)) v rest (t ∷ ts) failed refl)
       ]
 
-  pub sound : {A : Type 0} (g : Rule T N Val A) (ts : List T) (v : A) (rest : List T) → read_in kind f call g ts ≡ ok v rest
+  pub sound : {A : Type 0} (g : Rule T N Value A) (ts : List T) (v : A) (rest : List T) → read_in kind f call g ts ≡ ok v rest
       → (p : List T) × Is kind R g v p × (ts ≡ p ++ rest)
   sound (tok k ks) [] v rest e = absurd (ok_or_err (err []) v rest [] e refl)
   sound (tok k ks) (t ∷ ts) v rest e = let is = token_sound (k ∷ ks) t ts v rest e in (v ∷ [], (is.0, refl), is.1)
@@ -99,8 +99,8 @@ module _ {T : Type 0} (kind : T → ℕ) {N : Type 0} {Val : N → Type 0} (f : 
       let (p, h, q) = sound g ts a rest x in
       (p, (a, same, h), q)
 
-module _ {T : Type 0} (kind : T → ℕ) {N : Type 0} {Val : N → Type 0} (rule : (n : N) → Rule T N Val (Val n)) (f : Foresight N) where
-  pub sound_within : (h : ℕ) (n : N) (ts : List T) (v : Val n) (rest : List T) → read_within kind f rule h n ts ≡ ok v rest
+module _ {T : Type 0} (kind : T → ℕ) {N : Type 0} {Value : N → Type 0} (rule : (n : N) → Rule T N Value (Value n)) (f : Foresight N) where
+  pub sound_within : (h : ℕ) (n : N) (ts : List T) (v : Value n) (rest : List T) → read_within kind f rule h n ts ≡ ok v rest
       → (p : List T) × Within kind rule h n v p × (ts ≡ p ++ rest)
   sound_within zero n ts v rest e = absurd (ok_or_out out v rest e refl)
   sound_within (suc h) n ts v rest e = sound kind f (Within kind rule h) (read_within kind f rule h) (sound_within h) (rule n) ts v rest e

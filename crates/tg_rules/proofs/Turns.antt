@@ -4,7 +4,7 @@ use Rattle.std.proofs.lemmas.Bool.{and_parts, and_from, or_right, or_cases, not-
 use Rattle.tg_rules.specs.Rule.{Rule, tok, nt, seq, alt, opt, act, has}
 use Rattle.tg_rules.specs.Texts.{Is, Reads}
 use Rattle.tg_rules.specs.Foresight.{Foresight, rank_limit, empty_of, first_of, agrees, below}
-use Rattle.tg_rules.specs.Reader.{Read, ok, err, out, mapped, followed, starts, token_at, read_in, read_within, read}
+use Rattle.tg_rules.specs.Reader.{Read, ok, err, out, mapped, followed, turns, starts, token_at, read_in, read_within, read}
 use Rattle.tg_rules.proofs.NextToken.{clash}
 use Rattle.tg_rules.proofs.Firsts.{IsForeseen, empty_text, foreseen}
 use Rattle.tg_rules.proofs.Sound.{sound, sound_within, ok_or_out, err_or_out}
@@ -38,24 +38,24 @@ module _ {T : Type 0} where
       (refl, λ (o : err (t ∷ ts) ≡ out). err_or_out {A = T} (err (t ∷ ts)) (t ∷ ts) refl o)
 
 -- on texts of at most `size` tokens, where the parts at the front have ranks below `r`
-module _ {T : Type 0} (kind : T → ℕ) {N : Type 0} {Val : N → Type 0} (f : Foresight N) (R : (n : N) → Val n → List T → Type 0) (seen : IsForeseen kind f R)
-    (call call' : (n : N) → List T → Read T (Val n))
-    (sound_call : (n : N) (ts : List T) (v : Val n) (rest : List T) → call n ts ≡ ok v rest → (p : List T) × R n v p × (ts ≡ p ++ rest)) where
+module _ {T : Type 0} (kind : T → ℕ) {N : Type 0} {Value : N → Type 0} (f : Foresight N) (R : (n : N) → Value n → List T → Type 0) (seen : IsForeseen kind f R)
+    (call call' : (n : N) → List T → Read T (Value n))
+    (sound_call : (n : N) (ts : List T) (v : Value n) (rest : List T) → call n ts ≡ ok v rest → (p : List T) × R n v p × (ts ≡ p ++ rest)) where
   abbrev pub AgreeBelow : ℕ → ℕ → Type 0
   AgreeBelow size r = (n : N) (ts : List T) → (length ts < size) ⊎ ((length ts ≤ size) × (f.rank n < r)) → Agree (call n ts) (call' n ts)
 
   -- what is left is no longer, and shorter where a token must have been read
-  left_is_less : {A : Type 0} (g : Rule T N Val A) (ts rest : List T) (a : A) → read_in kind f call g ts ≡ ok a rest → length rest ≤ length ts
+  left_is_less : {A : Type 0} (g : Rule T N Value A) (ts rest : List T) (a : A) → read_in kind f call g ts ≡ ok a rest → length rest ≤ length ts
   left_is_less g ts rest a e =
       let (p, h, same) = sound kind f R call sound_call g ts a rest e in
       let n : length ts ≡ length p + length rest = ap length same ∙ length-append p rest in
       omega (arith, n)
 
-  not_nil : {A : Type 0} (g : Rule T N Val A) (a : A) (p : List T) → Is kind R g a p → empty_of f g ≡ false → 1 ≤ length p
+  not_nil : {A : Type 0} (g : Rule T N Value A) (a : A) (p : List T) → Is kind R g a p → empty_of f g ≡ false → 1 ≤ length p
   not_nil g a [] h full = absurd (clash (empty_of f g) (empty_text kind f R seen g a h) full)
   not_nil g a (t ∷ p) h full = omega arith
 
-  left_is_shorter : {A : Type 0} (g : Rule T N Val A) (ts rest : List T) (a : A) → read_in kind f call g ts ≡ ok a rest → empty_of f g ≡ false → length rest < length ts
+  left_is_shorter : {A : Type 0} (g : Rule T N Value A) (ts rest : List T) (a : A) → read_in kind f call g ts ≡ ok a rest → empty_of f g ≡ false → length rest < length ts
   left_is_shorter g ts rest a e full =
       let (p, h, same) = sound kind f R call sound_call g ts a rest e in
       let n : length ts ≡ length p + length rest = ap length same ∙ length-append p rest in
@@ -71,11 +71,11 @@ module _ {T : Type 0} (kind : T → ℕ) {N : Type 0} {Val : N → Type 0} (f : 
   no_more size r h small less n ts (inl a) = h n ts (inl (omega (arith, a, less)))
   no_more size r h small less n ts (inr b) = h n ts (inr (omega (arith, b.0, less), b.1))
 
-module _ {T : Type 0} (kind : T → ℕ) {N : Type 0} {Val : N → Type 0} (f : Foresight N) (R : (n : N) → Val n → List T → Type 0) (seen : IsForeseen kind f R)
-    (call call' : (n : N) → List T → Read T (Val n))
-    (sound_call : (n : N) (ts : List T) (v : Val n) (rest : List T) → call n ts ≡ ok v rest → (p : List T) × R n v p × (ts ≡ p ++ rest))
+module _ {T : Type 0} (kind : T → ℕ) {N : Type 0} {Value : N → Type 0} (f : Foresight N) (R : (n : N) → Value n → List T → Type 0) (seen : IsForeseen kind f R)
+    (call call' : (n : N) → List T → Read T (Value n))
+    (sound_call : (n : N) (ts : List T) (v : Value n) (rest : List T) → call n ts ≡ ok v rest → (p : List T) × R n v p × (ts ≡ p ++ rest))
     (ranks : (n : N) → nat_lt (f.rank n) rank_limit ≡ true) where
-  below_limit : {A : Type 0} (g : Rule T N Val A) → below f rank_limit g ≡ true
+  below_limit : {A : Type 0} (g : Rule T N Value A) → below f rank_limit g ≡ true
   below_limit (tok k ks) = refl
   below_limit (nt n) = ranks n
   below_limit (seq g h) = and_from (below f rank_limit g) (not (empty_of f g) || below f rank_limit h) (below_limit g) (or_right (not (empty_of f g)) (below f rank_limit h) (below_limit h))
@@ -83,7 +83,7 @@ module _ {T : Type 0} (kind : T → ℕ) {N : Type 0} {Val : N → Type 0} (f : 
   below_limit (opt g) = below_limit g
   below_limit (act make g) = below_limit g
 
-  pub read_agrees : {A : Type 0} (g : Rule T N Val A) (size r : ℕ) → below f r g ≡ true → AgreeBelow kind f R seen call call' sound_call size r
+  pub read_agrees : {A : Type 0} (g : Rule T N Value A) (size r : ℕ) → below f r g ≡ true → AgreeBelow kind f R seen call call' sound_call size r
       → (ts : List T) → length ts ≤ size → Agree (read_in kind f call g ts) (read_in kind f call' g ts)
   read_agrees (tok k ks) size r low same ts fit = token_agrees kind (k ∷ ks) ts
   read_agrees (nt n) size r low same ts fit = same n ts (inr (fit, ltb-true (f.rank n) r low))
@@ -107,9 +107,9 @@ module _ {T : Type 0} (kind : T → ℕ) {N : Type 0} {Val : N → Type 0} (f : 
       (mapped_agree Some (read_in kind f call g ts) (read_in kind f call' g ts) (read_agrees g size r low same ts fit)) (refl, λ o. ok_or_out (ok None ts) None ts refl o)
   read_agrees (act make g) size r low same ts fit = mapped_agree make (read_in kind f call g ts) (read_in kind f call' g ts) (read_agrees g size r low same ts fit)
 
-module _ {T : Type 0} (kind : T → ℕ) {N : Type 0} {Val : N → Type 0} (rule : (n : N) → Rule T N Val (Val n)) (f : Foresight N)
+module _ {T : Type 0} (kind : T → ℕ) {N : Type 0} {Value : N → Type 0} (rule : (n : N) → Rule T N Value (Value n)) (f : Foresight N)
     (agree : (n : N) → agrees f n (rule n) ≡ true) (ranks : (n : N) → nat_lt (f.rank n) rank_limit ≡ true) (low : (n : N) → below f (f.rank n) (rule n) ≡ true) where
-  sound_reads : (h : ℕ) (n : N) (ts : List T) (v : Val n) (rest : List T) → read_within kind f rule h n ts ≡ ok v rest
+  sound_reads : (h : ℕ) (n : N) (ts : List T) (v : Value n) (rest : List T) → read_within kind f rule h n ts ≡ ok v rest
       → (p : List T) × Reads kind rule n v p × (ts ≡ p ++ rest)
   sound_reads h n ts v rest e = let (p, w, same) = sound_within kind rule f h n ts v rest e in (p, (h, w), same)
 
@@ -132,14 +132,14 @@ module _ {T : Type 0} (kind : T → ℕ) {N : Type 0} {Val : N → Type 0} (rule
   unfolding read
   as_read h n ts l =
       let b = ltb-true (f.rank n) rank_limit (ranks n) in
-      enough h (rank_limit * length ts + rank_limit) n ts l (omega (arith, b))
+      enough h (turns ts) n ts l (omega (arith, b))
 
   -- a part is read as its rule says, and not given up
   pub reads_rule : (n : N) (ts : List T) → (read kind f rule n ts ≡ read_in kind f (read kind f rule) (rule n) ts) × (read kind f rule n ts ≡ out → ⊥)
   unfolding read
   reads_rule n ts =
       let h = rank_limit * length ts + 127 in
-      let one : rank_limit * length ts + rank_limit ≡ suc h = omega arith in
+      let one : turns ts ≡ suc h = omega arith in
       let b = ltb-true (f.rank n) rank_limit (ranks n) in
       let same = read_agrees kind f (Reads kind rule) (foreseen kind rule f agree) (read_within kind f rule h) (read kind f rule) (sound_reads h) ranks
       (rule n) (length ts) (f.rank n) (low n)

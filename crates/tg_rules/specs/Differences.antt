@@ -1,9 +1,10 @@
 -- A small grammar as an example: differences of numbers and of differences in brackets, grouped to the left.
 --   difference = atom { "-" atom }
 --   atom = number | "(" difference ")"
-use Rattle.std.specs.Prelude.{ℕ, zero, suc, Bool, true, false, Option, Some, None, List, [], ◌∷◌}
+use Rattle.std.specs.Prelude.{ℕ, zero, suc, Bool, true, false, List, [], ◌∷◌}
 use Rattle.tg_rules.specs.Rule.{Rule, tok, nt, alt, opt, act, ◌∙∙◌, ◌▸◌, ◌◂◌}
 use Rattle.tg_rules.specs.Foresight.{Foresight}
+use Rattle.tg_rules.specs.Repetition.{listed, folded}
 
 pub data Token : Type 0 where
   number : ℕ → Token
@@ -41,12 +42,7 @@ leaf_of close_bracket = leaf 0
 
 -- `t - u - v` is `(t - u) - v`
 abbrev pub grouped : Tree → List Tree → Tree
-grouped t [] = t
-grouped t (u ∷ us) = grouped (less t u) us
-
-abbrev pub listed : Option (Tree × List Tree) → List Tree
-listed None = []
-listed (Some p) = p.0 ∷ p.1
+grouped = folded less
 
 abbrev pub rule : (n : Part) → Rule Token Part Meaning (Meaning n)
 rule difference = act (λ x. grouped x.0 x.1) (nt atom ∙∙ nt further)

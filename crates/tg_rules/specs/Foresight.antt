@@ -28,8 +28,8 @@ abbrev pub apart : List ℕ → List ℕ → Bool
 apart [] ls = true
 apart (k ∷ ks) ls = not (has ls k) && apart ks ls
 
-module _ {T N : Type 0} {Val : N → Type 0} (f : Foresight N) where
-  abbrev pub empty_of : {A : Type 0} → Rule T N Val A → Bool
+module _ {T N : Type 0} {Value : N → Type 0} (f : Foresight N) where
+  abbrev pub empty_of : {A : Type 0} → Rule T N Value A → Bool
   empty_of (tok k ks) = false
   empty_of (nt n) = f.empty n
   empty_of (seq g h) = empty_of g && empty_of h
@@ -37,7 +37,7 @@ module _ {T N : Type 0} {Val : N → Type 0} (f : Foresight N) where
   empty_of (opt g) = true
   empty_of (act make g) = empty_of g
 
-  abbrev pub first_of : {A : Type 0} → Rule T N Val A → List ℕ
+  abbrev pub first_of : {A : Type 0} → Rule T N Value A → List ℕ
   first_of (tok k ks) = k ∷ ks
   first_of (nt n) = f.first n
   first_of (seq g h) = if empty_of g then first_of g ++ first_of h else first_of g
@@ -45,7 +45,7 @@ module _ {T N : Type 0} {Val : N → Type 0} (f : Foresight N) where
   first_of (opt g) = first_of g
   first_of (act make g) = first_of g
 
-  abbrev pub more_of : {A : Type 0} → Rule T N Val A → List ℕ
+  abbrev pub more_of : {A : Type 0} → Rule T N Value A → List ℕ
   more_of (tok k ks) = []
   more_of (nt n) = f.more n
   more_of (seq g h) = if empty_of h then more_of g ++ more_of h else more_of h
@@ -55,7 +55,7 @@ module _ {T N : Type 0} {Val : N → Type 0} (f : Foresight N) where
 
   -- One token tells what to read: the sides of a choice begin apart and aren't empty, and what goes on with a part isn't what
   -- may stand behind it.
-  abbrev pub fits : {A : Type 0} → Rule T N Val A → Bool
+  abbrev pub fits : {A : Type 0} → Rule T N Value A → Bool
   fits (tok k ks) = true
   fits (nt n) = true
   fits (seq g h) = fits g && (fits h && apart (more_of g) (first_of h))
@@ -64,7 +64,7 @@ module _ {T N : Type 0} {Val : N → Type 0} (f : Foresight N) where
   fits (act make g) = fits g
 
   -- the parts with which a text of the rule may begin have ranks below this
-  abbrev pub below : ℕ → {A : Type 0} → Rule T N Val A → Bool
+  abbrev pub below : ℕ → {A : Type 0} → Rule T N Value A → Bool
   below r (tok k ks) = true
   below r (nt n) = nat_lt (f.rank n) r
   below r (seq g h) = below r g && (not (empty_of g) || below r h)
@@ -73,12 +73,12 @@ module _ {T N : Type 0} {Val : N → Type 0} (f : Foresight N) where
   below r (act make g) = below r g
 
   -- the table has what the rule of the part gives
-  abbrev pub agrees : {A : Type 0} → N → Rule T N Val A → Bool
+  abbrev pub agrees : {A : Type 0} → N → Rule T N Value A → Bool
   agrees n g = all_in (first_of g) (f.first n) && (all_in (more_of g) (f.more n) && (not (empty_of g) || f.empty n))
 
-module _ {T : Type 0} (kind : T → ℕ) (token : ℕ → T) {N : Type 0} {Val : N → Type 0} where
+module _ {T : Type 0} (kind : T → ℕ) (token : ℕ → T) {N : Type 0} {Value : N → Type 0} where
   -- `token` gives a token of the first kind of each class
-  abbrev pub spelled : {A : Type 0} → Rule T N Val A → Bool
+  abbrev pub spelled : {A : Type 0} → Rule T N Value A → Bool
   spelled (tok k ks) = has (k ∷ ks) (kind (token k))
   spelled (nt n) = true
   spelled (seq g h) = spelled g && spelled h

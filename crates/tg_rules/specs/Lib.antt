@@ -3,6 +3,7 @@ pub mod Texts
 pub mod Fault
 pub mod Foresight
 pub mod Reader
+pub mod Repetition
 pub mod Laws
 pub mod Differences
 pub mod Passing

@@ -1,6 +1,5 @@
 -- All parts of the example pass.
-use Rattle.std.specs.Prelude.{◌≡◌, true}
-use Rattle.std.proofs.Common.{refl}
+use Rattle.std.specs.Prelude.{◌≡◌, true, refl}
 use Rattle.tg_rules.specs.Reader.{passes}
 use Rattle.tg_rules.specs.Differences.{Part, difference, further, atom, kind, rule, foresight, token, sample}
 

@@ -19,6 +19,10 @@ followed {T} {A} {B} (ok a rest) next = mapped {B = A × B} (λ b. (a, b)) (next
 followed (err rest) next = err rest
 followed out next = out
 
+-- As many turns as are ever needed for some tokens: between one token and the next, ranks fall.
+abbrev pub turns : {T : Type 0} → List T → ℕ
+turns ts = rank_limit * length ts + rank_limit
+
 -- nothing is left
 abbrev pub is_whole : {T A : Type 0} → Read T A → Bool
 is_whole (ok a []) = true
@@ -36,9 +40,9 @@ module _ {T : Type 0} (kind : T → ℕ) where
   token_at ks [] = err []
   token_at ks (t ∷ ts) = if has ks (kind t) then ok t ts else err (t ∷ ts)
 
-module _ {T : Type 0} (kind : T → ℕ) {N : Type 0} {Val : N → Type 0} (f : Foresight N) where
+module _ {T : Type 0} (kind : T → ℕ) {N : Type 0} {Value : N → Type 0} (f : Foresight N) where
   -- by a rule, where `call` reads the parts; a `let` isn't computed before it is used
-  abbrev pub read_in : {A : Type 0} → ((n : N) → List T → Read T (Val n)) → Rule T N Val A → List T → Read T A
+  abbrev pub read_in : {A : Type 0} → ((n : N) → List T → Read T (Value n)) → Rule T N Value A → List T → Read T A
   read_in call (tok k ks) ts = token_at kind (k ∷ ks) ts
   read_in call (nt n) ts = call n ts
   read_in call (seq g h) ts = followed (read_in call g ts) (read_in call h)
@@ -47,19 +51,19 @@ module _ {T : Type 0} (kind : T → ℕ) {N : Type 0} {Val : N → Type 0} (f : 
   read_in call (act make g) ts = mapped make (read_in call g ts)
 
   -- in at most this many turns, each of which enters a part
-  abbrev pub read_within : ((n : N) → Rule T N Val (Val n)) → ℕ → (n : N) → List T → Read T (Val n)
+  abbrev pub read_within : ((n : N) → Rule T N Value (Value n)) → ℕ → (n : N) → List T → Read T (Value n)
   read_within rule zero n ts = out
-  read_within rule (suc turns) n ts = let call = read_within rule turns in read_in call (rule n) ts
+  read_within rule (suc left) n ts = let call = read_within rule left in read_in call (rule n) ts
 
-  -- with as many turns as are ever needed: between two tokens ranks fall
-  unfoldable pub read : ((n : N) → Rule T N Val (Val n)) → (n : N) → List T → Read T (Val n)
-  read rule n ts = read_within rule (rank_limit * length ts + rank_limit) n ts
+  -- A part, by its rule. It isn't unfolded by itself: that it reads as its rule says is a law, so the turns never show.
+  unfoldable pub read : ((n : N) → Rule T N Value (Value n)) → (n : N) → List T → Read T (Value n)
+  read rule n ts = read_within rule (turns ts) n ts
 
-module _ {T : Type 0} (kind : T → ℕ) {N : Type 0} {Val : N → Type 0} (rule : (n : N) → Rule T N Val (Val n)) (f : Foresight N) (token : ℕ → T) (sample : N → List T) where
+module _ {T : Type 0} (kind : T → ℕ) {N : Type 0} {Value : N → Type 0} (rule : (n : N) → Rule T N Value (Value n)) (f : Foresight N) (token : ℕ → T) (sample : N → List T) where
   -- All conditions on a part: they compute, so that `refl` shows them. The sample is some text of the part.
   abbrev pub passes : N → Bool
   passes n =
       fits f (rule n)
       && (agrees f n (rule n)
       && (below f (f.rank n) (rule n)
-      && (nat_lt (f.rank n) rank_limit && (spelled kind token (rule n) && is_whole (read_within kind f rule (rank_limit * length (sample n) + rank_limit) n (sample n))))))
+      && (nat_lt (f.rank n) rank_limit && (spelled kind token (rule n) && is_whole (read_within kind f rule (turns (sample n)) n (sample n))))))
