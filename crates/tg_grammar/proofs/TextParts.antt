@@ -7,7 +7,8 @@ use Rattle.tg_grammar.specs.declared.types.RawTy.{RawTy}
 use Rattle.tg_grammar.specs.Kinds.{close_paren, comma, and, arrow}
 use Rattle.tg_grammar.specs.Seen.{Seen}
 use Rattle.tg_grammar.specs.Parts.{Part, Value, WholeType, MoreTypes}
-use Rattle.tg_grammar.specs.Making.{listed, applied, bracketed}
+use Rattle.tg_rules.specs.Repetition.{listed}
+use Rattle.tg_grammar.specs.Making.{applied, bracketed}
 use Rattle.tg_grammar.specs.Page.{Grammar, word, many}
 use Rattle.tg_grammar.specs.Reading.{kind}
 

@@ -9,11 +9,6 @@ use Rattle.tg_grammar.specs.declared.formulas.RawFormula.TheVariants as formulas
 use Rattle.tg_grammar.specs.declared.certificates.RawLine.{RawLine}
 use Rattle.tg_grammar.specs.Kinds.{arrow}
 
--- an item and the items after it, or none
-abbrev pub listed : {A : Type 0} → Option (A × List A) → List A
-listed None = []
-listed (Some x) = x.0 ∷ x.1
-
 abbrev pub given : {A : Type 0} → Option (List A) → List A
 given None = []
 given (Some xs) = xs
@@ -41,10 +36,9 @@ abbrev pub compared : RawTerm → Option (ℕ × RawTerm) → RawTerm
 compared a None = a
 compared a (Some x) = terms.Op x.0 (a ∷ x.1 ∷ [])
 
--- operands that are grouped to the left
-abbrev pub grouped : RawTerm → List (ℕ × RawTerm) → RawTerm
-grouped a [] = a
-grouped a (x ∷ xs) = grouped (terms.Op x.0 (a ∷ x.1 ∷ [])) xs
+-- one operand more of a chain
+abbrev pub chained : RawTerm → ℕ × RawTerm → RawTerm
+chained a x = terms.Op x.0 (a ∷ x.1 ∷ [])
 
 -- ---- formulas and lines of a certificate
 

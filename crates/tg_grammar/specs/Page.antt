@@ -2,6 +2,7 @@
 -- what stands in quotes is a token. Each repetition is a part of its own.
 use Rattle.std.specs.Prelude.{ℕ, true, false, Some, None, List, [], ◌∷◌}
 use Rattle.tg_rules.specs.Rule.{Rule, tok, nt, alt, opt, act, ◌∙∙◌, ◌▸◌, ◌◂◌}
+use Rattle.tg_rules.specs.Repetition.{listed, folded}
 use Rattle.tg_grammar.specs.declared.types.RawTy.TheVariants as types
 use Rattle.tg_grammar.specs.declared.terms.RawTerm.TheVariants as terms
 use Rattle.tg_grammar.specs.declared.terms.Binder.TheVariants as binders
@@ -18,7 +19,7 @@ use Rattle.tg_grammar.specs.Words.{local_kinds}
 use Rattle.tg_grammar.specs.Seen.{Seen}
 use Rattle.tg_grammar.specs.Parts.{in_theory, in_certificate, Part, Value}
 use Rattle.tg_grammar.specs.Parts.{Theory, Judge, Check, Declarations, Declaration, Parameters, MoreParameters, Constructor, MoreConstructors, Equation, Equations, Pattern, Patterns, Words, SimpleType, TypeAtom, TypeAtoms, MoreTypeAtoms, WholeType, MoreTypes, AfterType, FunctionType, MoreResults, Term, Variable, Variables, Branch, BranchHead, MoreBranches, Implication, Disjunction, Conjunction, Negation, Comparison, Sum, MoreSummands, Product, MoreFactors, Application, Atom, Atoms, PlainAtom, Outcomes, Items, Item, Answer, AnswerAtom, AnswerAtoms, PlainAnswer, Certificate, Lines, Line, Step, StepInContext, StepFromLines, Context, Numbers, Formula, MarkedFormula, InnerFormula}
-use Rattle.tg_grammar.specs.Making.{listed, given, applied, joined, compared, grouped, connected, rule_place, step, numbered}
+use Rattle.tg_grammar.specs.Making.{given, applied, joined, compared, chained, connected, rule_place, step, numbered}
 
 abbrev pub Grammar : Type 0 → Type 1
 Grammar A = Rule Seen Part Value A
@@ -139,10 +140,10 @@ page (Negation m) = alt (act (λ a. terms.Op not (a ∷ [])) (not ▸ nt (Negati
 -- cmp = add [ ( "=" | "<" | "<=" ) add ]
 page (Comparison m) = act (λ x. compared x.0 x.1) (nt (Sum m) ∙∙ opt (operator equal (less ∷ less_equal ∷ []) ∙∙ nt (Sum m)))
 -- add = mul { ( "+" | "-" ) mul }, grouped to the left
-page (Sum m) = act (λ x. grouped x.0 x.1) (nt (Product m) ∙∙ nt (MoreSummands m))
+page (Sum m) = act (λ x. folded chained x.0 x.1) (nt (Product m) ∙∙ nt (MoreSummands m))
 page (MoreSummands m) = many ((operator plus (minus ∷ []) ∙∙ nt (Product m)) ∙∙ nt (MoreSummands m))
 -- mul = app { ( "*" | "div" | "mod" ) app }, grouped to the left
-page (Product m) = act (λ x. grouped x.0 x.1) (nt (Application m) ∙∙ nt (MoreFactors m))
+page (Product m) = act (λ x. folded chained x.0 x.1) (nt (Application m) ∙∙ nt (MoreFactors m))
 page (MoreFactors m) = many ((operator times (div_word ∷ mod_word ∷ []) ∙∙ nt (Application m)) ∙∙ nt (MoreFactors m))
 -- app = atom | ( word | "Suc" ) atom { atom }
 page (Application m) =
