@@ -10,9 +10,9 @@ use Rattle.tg_grammar.specs.declared.terms.RawCon.TheVariants as constructors
 use Rattle.tg_grammar.specs.declared.declarations.RawDecl.TheVariants as declarations
 use Rattle.tg_grammar.specs.declared.declarations.RawPat.TheVariants as patterns
 use Rattle.tg_grammar.specs.declared.formulas.RawFormula.TheVariants as formulas
-use Rattle.tg_grammar.specs.Kinds.{open_paren, close_paren, open_brace, close_brace, open_bracket, close_bracket, comma, semicolon, dot, equal, plus, minus, times, and, or, not, arrow, double_arrow, question, bang, theory_word, version_word, begin_word, end_word, datatype_word, if_word, then_word, else_word, let_word, in_word, case_word, of_word, div_word, suc_word, nat_word, bool_word, other_word, answer_word, all_word, weak_rule, schema_rule, exhaust_rule, deep_rule, type_variable}
+use Rattle.tg_grammar.specs.Kinds.{open_paren, close_paren, open_brace, close_brace, open_bracket, close_bracket, comma, semicolon, dot, equal, plus, minus, times, and, or, not, arrow, double_arrow, double_colon, question, bang, theory_word, version_word, begin_word, end_word, datatype_word, program_word, spec_word, outcomes_word, certificate_word, if_word, then_word, else_word, let_word, in_word, case_word, of_word, div_word, suc_word, nat_word, bool_word, other_word, depth_word, bound_word, seed_word, tries_word, width_word, answer_word, raised_word, all_word, weak_rule, true_rule, schema_rule, exhaust_rule, deep_rule, type_variable}
 use Rattle.tg_grammar.specs.Seen.{Seen, number_kind}
-use Rattle.tg_grammar.specs.Parts.{in_theory, in_certificate, Theory, Declaration, Equation, WholeType, Term, Item, Line, Formula}
+use Rattle.tg_grammar.specs.Parts.{in_theory, in_certificate, Theory, Judge, Declaration, Equation, WholeType, Term, Outcomes, Item, Certificate, Line, Formula}
 use Rattle.tg_grammar.specs.Samples.{token}
 use Rattle.tg_grammar.specs.Reading.{reads}
 
@@ -38,6 +38,12 @@ f = codes "f"
 abbrev n : List ℕ
 n = codes "n"
 
+abbrev p : List ℕ
+p = codes "p"
+
+abbrev t : List ℕ
+t = codes "t"
+
 abbrev x : List ℕ
 x = codes "x"
 
@@ -49,6 +55,9 @@ z = codes "z"
 
 abbrev name : List ℕ → Seen
 name text = record { kind = other_word; value = 0; text = text }
+
+abbrev local_name : ℕ → List ℕ → Seen
+local_name kind text = record { kind = kind; value = 0; text = text }
 
 abbrev number : ℕ → Seen
 number n = record { kind = number_kind n; value = n; text = [] }
@@ -226,6 +235,50 @@ a_datatype : reads Declaration
 unfolding read
 a_datatype = refl
 
+-- whole inputs
+-- theory t version 1 begin program p :: nat => nat ; spec x . p x = 0 ; end
+a_theory : reads Theory
+    (token theory_word ∷ name t ∷ token version_word ∷ number 1 ∷ token begin_word ∷ token program_word ∷ name p ∷ token double_colon ∷ token nat_word ∷ token double_arrow ∷ token nat_word ∷ token semicolon ∷ token spec_word ∷ name x ∷ token dot ∷ name p ∷ name x ∷ token equal ∷ number 0 ∷ token semicolon ∷ token end_word ∷ [])
+    ≡ ok (record { name = codes "t"; version = 1; decls = declarations.Program p (types.Nat ∷ types.Nat ∷ []) ∷ declarations.Spec (x ∷ []) (terms.Op equal ((terms.Use p (variable x ∷ [])) ∷ terms.Num 0 ∷ [])) ∷ [] }) []
+unfolding read
+a_theory = refl
+
+-- outcomes depth 3 bound 8 seed 1 tries 1000 width 16 begin answer 1 0 ; raised 2 ; end
+outcomes : reads Outcomes
+    (token outcomes_word ∷ token depth_word ∷ number 3 ∷ token bound_word ∷ number 8 ∷ token seed_word ∷ number 1 ∷ token tries_word ∷ number 1000 ∷ token width_word ∷ number 16 ∷ token begin_word ∷ token answer_word ∷ number 1 ∷ number 0 ∷ token semicolon ∷ token raised_word ∷ number 2 ∷ token semicolon ∷ token end_word ∷ [])
+    ≡ ok (record { settings = 3 ∷ 8 ∷ 1 ∷ 1000 ∷ 16 ∷ []; items = record { test = 1; answer = Some (terms.Num 0) } ∷ record { test = 2; answer = None } ∷ [] }) []
+unfolding read
+outcomes = refl
+
+-- certificate 1 begin 1 true { } ; end
+certificate : reads Certificate
+    (token certificate_word ∷ number 1 ∷ token begin_word ∷ number 1 ∷ token true_rule ∷ token open_brace ∷ token close_brace ∷ token semicolon ∷ token end_word ∷ [])
+    ≡ ok (record { lines = record { number = 1; rule = 16; nums = []; vars = []; word = None; formula = None; terms = [] } ∷ [] }) []
+unfolding read
+certificate = refl
+
+-- what stands behind an input is left, and an input that ends too soon is wrong at its end
+-- theory t version 1 begin end x
+behind_the_end : reads Theory
+    (token theory_word ∷ name t ∷ token version_word ∷ number 1 ∷ token begin_word ∷ token end_word ∷ name x ∷ [])
+    ≡ ok (record { name = codes "t"; version = 1; decls = [] }) (name x ∷ [])
+unfolding read
+behind_the_end = refl
+
+-- theory t version 1 begin end
+too_short : reads Judge
+    (token theory_word ∷ name t ∷ token version_word ∷ number 1 ∷ token begin_word ∷ token end_word ∷ [])
+    ≡ err []
+unfolding read
+too_short = refl
+
+-- `Suc` is no value of a recorded answer: answer 2 Suc 0 ;
+suc_is_no_value : reads Item
+    (token answer_word ∷ number 2 ∷ token suc_word ∷ number 0 ∷ token semicolon ∷ [])
+    ≡ err (token suc_word ∷ number 0 ∷ token semicolon ∷ [])
+unfolding read
+suc_is_no_value = refl
+
 -- `Suc` wants an argument: Suc
 bare_suc : reads (Term in_theory)
     (token suc_word ∷ [])
@@ -249,7 +302,14 @@ no_free = refl
 
 -- of versions there is one: theory t version 2 begin end
 version : reads Theory
-    (token theory_word ∷ name (codes "t") ∷ token version_word ∷ number 2 ∷ token begin_word ∷ token end_word ∷ [])
+    (token theory_word ∷ name t ∷ token version_word ∷ number 2 ∷ token begin_word ∷ token end_word ∷ [])
     ≡ err (number 2 ∷ token begin_word ∷ token end_word ∷ [])
 unfolding read
 version = refl
+
+-- a word with a meaning in one place is a name elsewhere: depth + ALL
+local_names : reads (Term in_theory)
+    (local_name depth_word (codes "depth") ∷ token plus ∷ local_name all_word (codes "ALL") ∷ [])
+    ≡ ok (terms.Op plus (variable (codes "depth") ∷ variable (codes "ALL") ∷ [])) []
+unfolding read
+local_names = refl

@@ -50,8 +50,8 @@ abbrev pub rule_place : ℕ → ℕ
 rule_place kind = kind - 80
 
 -- a rule and its arguments: numbers, context, name, formula and terms
-abbrev pub step : ℕ → List ℕ → List RawTy → Option (List ℕ) → Option RawFormula → List RawTerm → RawLine
-step rule nums vars word formula terms = record { number = 0; rule = rule; nums = nums; vars = vars; word = word; formula = formula; terms = terms }
+abbrev pub rule_line : ℕ → List ℕ → List RawTy → Option (List ℕ) → Option RawFormula → List RawTerm → RawLine
+rule_line rule nums vars word formula terms = record { number = 0; rule = rule; nums = nums; vars = vars; word = word; formula = formula; terms = terms }
 
 abbrev pub numbered : ℕ → RawLine → RawLine
 numbered n line = record line { number = n }

@@ -19,7 +19,7 @@ use Rattle.tg_grammar.specs.Words.{local_kinds}
 use Rattle.tg_grammar.specs.Seen.{Seen}
 use Rattle.tg_grammar.specs.Parts.{in_theory, in_certificate, Part, Value}
 use Rattle.tg_grammar.specs.Parts.{Theory, Judge, Check, Declarations, Declaration, Parameters, MoreParameters, Constructor, MoreConstructors, Equation, Equations, Pattern, Patterns, Words, SimpleType, TypeAtom, TypeAtoms, MoreTypeAtoms, WholeType, MoreTypes, AfterType, FunctionType, MoreResults, Term, Variable, Variables, Branch, BranchHead, MoreBranches, Implication, Disjunction, Conjunction, Negation, Comparison, Sum, MoreSummands, Product, MoreFactors, Application, Atom, Atoms, PlainAtom, Outcomes, Items, Item, Answer, AnswerAtom, AnswerAtoms, PlainAnswer, Certificate, Lines, Line, Step, StepInContext, StepFromLines, Context, Numbers, Formula, MarkedFormula, InnerFormula}
-use Rattle.tg_grammar.specs.Making.{given, applied, joined, compared, chained, connected, rule_place, step, numbered}
+use Rattle.tg_grammar.specs.Making.{given, applied, joined, compared, chained, connected, rule_place, rule_line, numbered}
 
 abbrev pub Grammar : Type 0 → Type 1
 Grammar A = Rule Seen Part Value A
@@ -194,11 +194,11 @@ page Step = alt (nt StepInContext) (nt StepFromLines)
 -- "hyp" context formula | "true" context | ( "refl" | "compute" ) context atom
 -- | "schema" context word atom | "deep" context number atom { atom }
 page StepInContext =
-    alt (act (λ x. step x.0 [] x.1.0 None (Some x.1.1) []) (rule hyp_rule [] ∙∙ nt Context ∙∙ nt Formula))
-    (alt (act (λ x. step x.0 [] x.1 None None []) (rule true_rule [] ∙∙ nt Context))
-    (alt (act (λ x. step x.0 [] x.1.0 None None (x.1.1 ∷ [])) (rule refl_rule (compute_rule ∷ []) ∙∙ nt Context ∙∙ nt (Atom in_certificate)))
-    (alt (act (λ x. step x.0 [] x.1.0 (Some x.1.1.0) None (x.1.1.1 ∷ [])) (rule schema_rule [] ∙∙ nt Context ∙∙ word ∙∙ nt (Atom in_certificate)))
-    (act (λ x. step x.0 (x.1.1.0 ∷ []) x.1.0 None None (x.1.1.1.0 ∷ x.1.1.1.1)) (rule deep_rule [] ∙∙ nt Context ∙∙ number ∙∙ nt (Atom in_certificate) ∙∙ nt (Atoms in_certificate))))))
+    alt (act (λ x. rule_line x.0 [] x.1.0 None (Some x.1.1) []) (rule hyp_rule [] ∙∙ nt Context ∙∙ nt Formula))
+    (alt (act (λ x. rule_line x.0 [] x.1 None None []) (rule true_rule [] ∙∙ nt Context))
+    (alt (act (λ x. rule_line x.0 [] x.1.0 None None (x.1.1 ∷ [])) (rule refl_rule (compute_rule ∷ []) ∙∙ nt Context ∙∙ nt (Atom in_certificate)))
+    (alt (act (λ x. rule_line x.0 [] x.1.0 (Some x.1.1.0) None (x.1.1.1 ∷ [])) (rule schema_rule [] ∙∙ nt Context ∙∙ word ∙∙ nt (Atom in_certificate)))
+    (act (λ x. rule_line x.0 (x.1.1.0 ∷ []) x.1.0 None None (x.1.1.1.0 ∷ x.1.1.1.1)) (rule deep_rule [] ∙∙ nt Context ∙∙ number ∙∙ nt (Atom in_certificate) ∙∙ nt (Atoms in_certificate))))))
 -- ( "andL" | "andR" | "allI" | "thypI" | "thypE" | "sym" ) number
 -- | ( "cut" | "andI" | "mp" | "exE" | "trans" ) number number
 -- | ( "weak" | "impI" | "false" ) number formula
@@ -209,15 +209,15 @@ page StepInContext =
 -- | "replace" number number formula
 -- | "exhaust" number number { number }
 page StepFromLines =
-    alt (act (λ x. step x.0 (x.1 ∷ []) [] None None []) (rule and_l_rule (and_r_rule ∷ all_i_rule ∷ thyp_i_rule ∷ thyp_e_rule ∷ sym_rule ∷ []) ∙∙ number))
-    (alt (act (λ x. step x.0 (x.1.0 ∷ x.1.1 ∷ []) [] None None []) (rule cut_rule (and_i_rule ∷ mp_rule ∷ exists_e_rule ∷ trans_rule ∷ []) ∙∙ number ∙∙ number))
-    (alt (act (λ x. step x.0 (x.1.0 ∷ []) [] None (Some x.1.1) []) (rule weak_rule (imp_i_rule ∷ false_rule ∷ []) ∙∙ number ∙∙ nt Formula))
-    (alt (act (λ x. step x.0 (x.1.0 ∷ []) x.1.1 None None []) (rule grow_rule [] ∙∙ number ∙∙ nt Context))
-    (alt (act (λ x. step x.0 (x.1.0 ∷ []) [] None None (x.1.1 ∷ [])) (rule all_e_rule [] ∙∙ number ∙∙ nt (Atom in_certificate)))
-    (alt (act (λ x. step x.0 (x.1.0 ∷ []) [] None (Some x.1.1.0) (x.1.1.1 ∷ [])) (rule exists_i_rule [] ∙∙ number ∙∙ nt Formula ∙∙ nt (Atom in_certificate)))
-    (alt (act (λ x. step x.0 (x.1.0 ∷ x.1.1.0 ∷ []) [] None None (x.1.1.1 ∷ [])) (rule split_rule [] ∙∙ number ∙∙ number ∙∙ nt (Atom in_certificate)))
-    (alt (act (λ x. step x.0 (x.1.0 ∷ x.1.1.0 ∷ []) [] None (Some x.1.1.1) []) (rule replace_rule [] ∙∙ number ∙∙ number ∙∙ nt Formula))
-    (act (λ x. step x.0 (x.1.0 ∷ x.1.1.0 ∷ x.1.1.1) [] None None []) (rule exhaust_rule [] ∙∙ number ∙∙ number ∙∙ nt Numbers)))))))))
+    alt (act (λ x. rule_line x.0 (x.1 ∷ []) [] None None []) (rule and_l_rule (and_r_rule ∷ all_i_rule ∷ thyp_i_rule ∷ thyp_e_rule ∷ sym_rule ∷ []) ∙∙ number))
+    (alt (act (λ x. rule_line x.0 (x.1.0 ∷ x.1.1 ∷ []) [] None None []) (rule cut_rule (and_i_rule ∷ mp_rule ∷ exists_e_rule ∷ trans_rule ∷ []) ∙∙ number ∙∙ number))
+    (alt (act (λ x. rule_line x.0 (x.1.0 ∷ []) [] None (Some x.1.1) []) (rule weak_rule (imp_i_rule ∷ false_rule ∷ []) ∙∙ number ∙∙ nt Formula))
+    (alt (act (λ x. rule_line x.0 (x.1.0 ∷ []) x.1.1 None None []) (rule grow_rule [] ∙∙ number ∙∙ nt Context))
+    (alt (act (λ x. rule_line x.0 (x.1.0 ∷ []) [] None None (x.1.1 ∷ [])) (rule all_e_rule [] ∙∙ number ∙∙ nt (Atom in_certificate)))
+    (alt (act (λ x. rule_line x.0 (x.1.0 ∷ []) [] None (Some x.1.1.0) (x.1.1.1 ∷ [])) (rule exists_i_rule [] ∙∙ number ∙∙ nt Formula ∙∙ nt (Atom in_certificate)))
+    (alt (act (λ x. rule_line x.0 (x.1.0 ∷ x.1.1.0 ∷ []) [] None None (x.1.1.1 ∷ [])) (rule split_rule [] ∙∙ number ∙∙ number ∙∙ nt (Atom in_certificate)))
+    (alt (act (λ x. rule_line x.0 (x.1.0 ∷ x.1.1.0 ∷ []) [] None (Some x.1.1.1) []) (rule replace_rule [] ∙∙ number ∙∙ number ∙∙ nt Formula))
+    (act (λ x. rule_line x.0 (x.1.0 ∷ x.1.1.0 ∷ x.1.1.1) [] None None []) (rule exhaust_rule [] ∙∙ number ∙∙ number ∙∙ nt Numbers)))))))))
 -- context = "{" [ tyatom { "," tyatom } ] "}"
 page Context = act given (open_brace ▸ opt (some (nt TypeAtom ∙∙ nt MoreTypeAtoms)) ◂ close_brace)
 page Numbers = many (number ∙∙ nt Numbers)

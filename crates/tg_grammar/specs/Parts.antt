@@ -21,7 +21,7 @@ pub data Mode : Type 0 where
   in_theory : Mode
   in_certificate : Mode
 
--- A part whose name begins with `More` or is a plural is a repetition, which may be empty.
+-- Repetitions, which may be empty, have the plural of what they repeat or `More` in their names; `Parameters` and `Outcomes` are none.
 pub data Part : Type 0 where
   -- what is handed in: a theory, a theory and outcomes, a theory and a certificate
   Theory : Part

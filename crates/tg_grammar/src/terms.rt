@@ -15,7 +15,7 @@ pub enum RawTerm {
     Free(u64),
     /// `!n` of a certificate.
     Bound(u64),
-    /// An operator and its operands. It is named by the kind of its token.
+    /// An operator, by the kind of its token ([`kinds`](crate::kinds)), and its operands.
     Op(u32, Items<RawTerm>),
     /// Condition, `then` and `else`.
     If(Items<RawTerm>),
