@@ -1,5 +1,5 @@
 -- What a reader decides by when it sees one token: the kinds with which each part may begin, those that could go on with it, and
--- whether it may be empty. They are held against the table of the rules, where they are wrong the check refuses them.
+-- whether it may be empty. All of it is held against the table of the rules, and the check refuses it where it is wrong.
 use Rattle.std.specs.Prelude.{ℕ, Bool, true, false, List, [], ◌∷◌, ◌++◌}
 use Rattle.tg_rules.specs.Foresight.{Foresight}
 use Rattle.tg_grammar.specs.Kinds.{open_paren, close_paren, open_brace, open_bracket, comma, equal, less, less_equal, plus, minus, times, and, or, not, arrow, double_arrow, question, bang, theory_word, datatype_word, primrec_word, definition_word, program_word, spec_word, outcomes_word, certificate_word, if_word, let_word, case_word, div_word, mod_word, suc_word, true_word, false_word, nat_word, bool_word, other_word, answer_word, raised_word, all_word, exists_word, thyp_word, tested_word, hyp_rule, weak_rule, cut_rule, grow_rule, and_i_rule, and_l_rule, and_r_rule, imp_i_rule, mp_rule, all_i_rule, all_e_rule, exists_i_rule, exists_e_rule, thyp_i_rule, thyp_e_rule, true_rule, false_rule, split_rule, refl_rule, sym_rule, trans_rule, replace_rule, schema_rule, exhaust_rule, deep_rule, compute_rule, type_variable, zero_number, one_number, other_number}
