@@ -32,7 +32,7 @@ brackets_alone : reads (open_bracket ∷ open_bracket ∷ number 0 ∷ close_bra
 unfolding read
 brackets_alone = refl
 
--- the same of the relation, without a reader: 1 - 2 by the rules
+-- of the relation, without a reader: `- 2` behind an operand
 minus_two : Reads kind rule further (leaf 2 ∷ []) (minus ∷ two ∷ [])
 minus_two =
     (2, (Some (leaf 2, []), refl, inr ((leaf 2, []), refl, (minus ∷ two ∷ [], [], ((minus, leaf 2), refl, (minus ∷ [], two ∷ [], (refl, refl), inl (two, refl, (refl, refl)), refl)), (None, refl, inl (refl, refl)), refl))))
@@ -76,7 +76,7 @@ pub not_closed : IsWrongAtEnd
 unfolding read
 not_closed = fault_at kind rule foresight token sample all_pass difference (open_bracket ∷ one ∷ minus ∷ two ∷ []) [] refl
 
--- so none of them is a text
+-- so `1 -` is no text
 no_text : (v : Tree) → IsText v (one ∷ minus ∷ []) → ⊥
 no_text v r = not_both IsText v (one ∷ minus ∷ []) (one ∷ minus ∷ []) [] r ends_early
 
