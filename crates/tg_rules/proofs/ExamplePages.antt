@@ -1,5 +1,5 @@
--- The example's table for a reader has the readings of its table on paper, which says by itself that differences are grouped
--- to the left.
+-- The example's table for a reader has the readings of the one that people write, which says by itself that differences are
+-- grouped to the left.
 use Rattle.std.proofs.Common.{◌≡◌, ◌⊎◌, ◌↔◌, Some, None, List, [], ◌∷◌, ◌++◌, inl, inr, refl, sym, ap, subst, ◌∙◌, append_assoc, append-nil}
 use Rattle.tg_rules.specs.Rule.{Rule, nt, ◌▸◌}
 use Rattle.tg_rules.specs.Texts.{Is, Reads}

@@ -1,5 +1,5 @@
 -- What is known of the example by hand, said of the definitions, so that a slip in one of them doesn't check.
-use Rattle.std.proofs.Common.{◌≡◌, ℕ, ◌-◌, false, Some, None, List, [], ◌∷◌, refl, inl, inr, if◌then◌else◌}
+use Rattle.std.proofs.Common.{◌≡◌, ℕ, ◌-◌, false, Some, None, List, [], ◌∷◌, refl, sym, subst, inl, inr, if◌then◌else◌}
 use Rattle.tg_rules.specs.Rule.{nt, seq, alt, opt, ◌▸◌}
 use Rattle.tg_rules.specs.Texts.{Reads}
 use Rattle.tg_rules.specs.Fault.{IsFault}
@@ -7,24 +7,13 @@ use Rattle.tg_rules.specs.Foresight.{fits, below, agrees, spelled}
 use Rattle.tg_rules.specs.Reader.{Read, ok, mapped, followed, starts, read_in, read, passes}
 use Rattle.tg_rules.specs.Repetition.{listed, with_front, fold_from}
 use Rattle.tg_rules.specs.Differences.{Token, number, minus, open_bracket, close_bracket, kind, Tree, leaf, less, difference, further, atom, Meaning, rule, page, foresight, token, sample}
+use Rattle.tg_rules.specs.KnownTexts.{one, two, three, IsText, GroupsToTheLeft, IsWrongAtSecondMinus, IsWrongAtEnd, IsWrongBehindText}
 use Rattle.tg_rules.specs.Passing.{all_pass}
 use Rattle.tg_rules.proofs.Places.{not_both}
 use Rattle.tg_rules.proofs.Whole.{read_is, whole_read, one_reading, fault_at, fault_before}
 
-abbrev one : Token
-one = number 1
-
-abbrev two : Token
-two = number 2
-
-abbrev three : Token
-three = number 3
-
 abbrev reads : List Token → Read Token Tree
 reads ts = read kind foresight rule difference ts
-
-abbrev IsText : Tree → List Token → Type 0
-IsText = Reads kind rule difference
 
 -- ---- texts
 
@@ -43,7 +32,7 @@ brackets_alone : reads (open_bracket ∷ open_bracket ∷ number 0 ∷ close_bra
 unfolding read
 brackets_alone = refl
 
--- the same of the relation, without a reader: 1 - 2 by the rules
+-- of the relation, without a reader: `- 2` behind an operand
 minus_two : Reads kind rule further (leaf 2 ∷ []) (minus ∷ two ∷ [])
 minus_two =
     (2, (Some (leaf 2, []), refl, inr ((leaf 2, []), refl, (minus ∷ two ∷ [], [], ((minus, leaf 2), refl, (minus ∷ [], two ∷ [], (refl, refl), inl (two, refl, (refl, refl)), refl)), (None, refl, inl (refl, refl)), refl))))
@@ -63,7 +52,7 @@ fold_kept = refl
 -- ---- where no text goes on
 
 -- 1 - - 2
-second_minus : IsFault IsText (one ∷ minus ∷ minus ∷ two ∷ []) (one ∷ minus ∷ []) (minus ∷ two ∷ [])
+pub second_minus : IsWrongAtSecondMinus
 unfolding read
 second_minus = fault_at kind rule foresight token sample all_pass difference (one ∷ minus ∷ []) (minus ∷ two ∷ []) refl
 
@@ -78,24 +67,26 @@ unfolding read
 empty_text = fault_at kind rule foresight token sample all_pass difference [] [] refl
 
 -- 1 2: 1 is a text, and no text goes on with 2
-two_behind : IsFault IsText (one ∷ two ∷ []) (one ∷ []) (two ∷ [])
+pub two_behind : IsWrongBehindText
 unfolding read
 two_behind = fault_before kind rule foresight token sample all_pass difference (one ∷ []) (leaf 1) two [] refl
 
 -- (1 - 2: the bracket isn't closed
-not_closed : IsFault IsText (open_bracket ∷ one ∷ minus ∷ two ∷ []) (open_bracket ∷ one ∷ minus ∷ two ∷ []) []
+pub not_closed : IsWrongAtEnd
 unfolding read
 not_closed = fault_at kind rule foresight token sample all_pass difference (open_bracket ∷ one ∷ minus ∷ two ∷ []) [] refl
 
--- so none of them is a text
+-- so `1 -` is no text
 no_text : (v : Tree) → IsText v (one ∷ minus ∷ []) → ⊥
 no_text v r = not_both IsText v (one ∷ minus ∷ []) (one ∷ minus ∷ []) [] r ends_early
 
 -- and 1 - 2 - 3 has no other grouping
-no_other : (v : Tree) → IsText v (one ∷ minus ∷ two ∷ minus ∷ three ∷ []) → v ≡ less (less (leaf 1) (leaf 2)) (leaf 3)
-no_other v r =
-    one_reading kind rule foresight token sample all_pass difference v (less (less (leaf 1) (leaf 2)) (leaf 3)) (one ∷ minus ∷ two ∷ minus ∷ three ∷ []) r
-    (whole_read kind rule foresight token sample all_pass difference (less (less (leaf 1) (leaf 2)) (leaf 3)) (one ∷ minus ∷ two ∷ minus ∷ three ∷ []) to_the_left)
+pub to_the_left_alone : GroupsToTheLeft
+to_the_left_alone v =
+    let left = whole_read kind rule foresight token sample all_pass difference (less (less (leaf 1) (leaf 2)) (leaf 3)) (one ∷ minus ∷ two ∷ minus ∷ three ∷ []) to_the_left in (
+      λ r. one_reading kind rule foresight token sample all_pass difference v (less (less (leaf 1) (leaf 2)) (leaf 3)) (one ∷ minus ∷ two ∷ minus ∷ three ∷ []) r left,
+      λ e. subst (λ z. IsText z (one ∷ minus ∷ two ∷ minus ∷ three ∷ [])) (sym e) left,
+    )
 
 -- ---- tables that don't pass
 

@@ -49,7 +49,7 @@ rule difference = act (λ x. grouped x.0 x.1) (nt atom ∙∙ nt further)
 rule further = act listed (opt ((2 ▸ nt atom) ∙∙ nt further))
 rule atom = alt (act leaf_of (tok 0 (1 ∷ []))) (3 ▸ (nt difference ◂ 4))
 
--- The same on paper: this table is of no use to a reader, since a difference begins with a difference.
+-- The same as people write it: the table is of no use to a reader, since a difference begins with a difference.
 --   difference = atom | difference "-" atom
 abbrev pub page : (n : Part) → Rule Token Part Meaning (Meaning n)
 page difference = alt (nt atom) (act (λ x. less x.0 x.1) (nt difference ∙∙ (2 ▸ nt atom)))

@@ -1,5 +1,5 @@
 -- The laws of a grammar, which the crate's functions carry: of its texts, of its reader, and of the place of a fault.
-use Rattle.std.specs.Prelude.{◌≡◌, ◌⊎◌, ◌↔◌, ℕ, false, List, ◌∷◌, ◌++◌}
+use Rattle.std.specs.Prelude.{◌≡◌, ◌⊎◌, ◌↔◌, ℕ, false, List, [], ◌∷◌, ◌++◌}
 use Rattle.tg_rules.specs.Rule.{Rule}
 use Rattle.tg_rules.specs.Texts.{Is, Reads}
 use Rattle.tg_rules.specs.Fault.{Begins, IsFault, IsLongestFront}
@@ -44,6 +44,10 @@ module _ {T : Type 0} (kind : T → ℕ) {N : Type 0} {Value : N → Type 0} (ru
     -- A text is read wherever it stands before a token that can't go on with it, or before the end.
     abbrev pub IsComplete : Type 0
     IsComplete = (n : N) (v : Value n) (p rest : List T) → Reads kind rule n v p → starts kind (f.more n) rest ≡ false → read kind f rule n (p ++ rest) ≡ ok v rest
+
+    -- So what is read whole are the texts.
+    abbrev pub ReadsTexts : Type 0
+    ReadsTexts = (n : N) (v : Value n) (ts : List T) → (read kind f rule n ts ≡ ok v []) ↔ Reads kind rule n v ts
 
     -- A reader stops where the fault is; and where something is left behind a text, the fault is before that.
     abbrev pub StopsAtFault : Type 0

@@ -7,3 +7,4 @@ pub mod Repetition
 pub mod Laws
 pub mod Differences
 pub mod Passing
+pub mod KnownTexts

@@ -26,8 +26,8 @@ pub trait Grammar {
     ghost pass: { (n : Part) → passes kind rule foresight token sample n ≡ true };
 }
 
-/// Two tables of rules with the same parts, as the one of a page, that is to be read by people, and the
-/// one that a reader goes by. Nothing is asked of either.
+/// Two tables of rules with the same parts: `page` as people write it, and `rule` as a reader goes by
+/// it. Nothing is asked of either.
 pub trait Tables {
     ghost Token: { Type 0 };
 

@@ -1,7 +1,8 @@
 ghost use Rattle.tg_rules.specs.Laws.{AreByRule, HasOneReading, HasTextOrFault, HasNotBoth, HasOneFault, HasFaultAtLongest, HasFronts};
-ghost use Rattle.tg_rules.specs.Laws.{IsSound, IsComplete, ReadsByRule, HasEnoughTurns, StopsAtFault, StopsBeforeFault};
+ghost use Rattle.tg_rules.specs.Laws.{IsSound, IsComplete, ReadsTexts, ReadsByRule, HasEnoughTurns, StopsAtFault, StopsBeforeFault};
 ghost use Rattle.tg_rules.specs.Laws.{HasReadingsOf, HaveSameReadings, HaveSameFaults};
 ghost use Rattle.tg_rules.specs.Differences.{kind, page, rule};
+ghost use Rattle.tg_rules.specs.KnownTexts.{GroupsToTheLeft, IsWrongAtSecondMinus, IsWrongAtEnd, IsWrongBehindText};
 
 use crate::grammar::{Grammar, Tables};
 
@@ -15,6 +16,7 @@ pub fn texts<G: Grammar>()
 pub fn reading<G: Grammar>()
     ensures sound { IsSound G.kind G.rule G.foresight }
     ensures complete { IsComplete G.kind G.rule G.foresight }
+    ensures whole { ReadsTexts G.kind G.rule G.foresight }
     ensures rules { ReadsByRule G.kind G.rule G.foresight }
     ensures turns { HasEnoughTurns G.kind G.rule G.foresight }
 {}
@@ -39,7 +41,12 @@ pub fn pages<G: Tables>()
     ensures faults { HaveSameFaults G.kind G.page G.rule }
 {}
 
-/// The example's two tables have the same readings, though on paper a difference begins with one.
+/// The example, by hand: its two tables have the same readings, though in the one that people write a
+/// difference begins with one; what groups to the left, and where three texts are wrong.
 pub fn differences()
-    ensures { HaveSameReadings kind page rule }
+    ensures tables { HaveSameReadings kind page rule }
+    ensures left { GroupsToTheLeft }
+    ensures minus { IsWrongAtSecondMinus }
+    ensures end { IsWrongAtEnd }
+    ensures behind { IsWrongBehindText }
 {}
