@@ -1,0 +1,5 @@
+pub mod TextParts
+pub mod FromPage
+pub mod ToPage
+pub mod Readings
+mod KnownReadings

@@ -1,0 +1,13 @@
+pub mod Kinds
+pub mod Words
+pub mod Seen
+pub mod Parts
+pub mod Making
+pub mod Page
+pub mod Table
+pub mod First
+pub mod Samples
+pub mod Reading
+pub mod Passing
+pub mod Laws
+pub mod KnownKinds

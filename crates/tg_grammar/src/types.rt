@@ -1,0 +1,15 @@
+use sqlite_items::Items;
+use tg_types::Name;
+
+/// A type as it is written.
+#[derive(Debug, Drop)]
+pub enum RawTy {
+    /// A datatype's name and the types that it is applied to.
+    Word(Name, Items<RawTy>),
+    /// A type variable, its `'` included.
+    Var(Name),
+    /// `nat`.
+    Nat,
+    /// `bool`.
+    Bool,
+}

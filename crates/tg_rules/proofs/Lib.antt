@@ -1,0 +1,13 @@
+pub mod NextToken
+pub mod Firsts
+pub mod Sound
+pub mod Complete
+pub mod Heights
+pub mod Turns
+pub mod Completions
+pub mod Locality
+pub mod Places
+pub mod Whole
+pub mod KnownValues
+pub mod ExamplePages
+pub mod Repetition

@@ -1,0 +1,10 @@
+pub mod Rule
+pub mod Texts
+pub mod Fault
+pub mod Foresight
+pub mod Reader
+pub mod Repetition
+pub mod Laws
+pub mod Differences
+pub mod Passing
+pub mod KnownTexts
