@@ -6,11 +6,18 @@ PROGRAM is crates/testgen/out/testgen where none is named. A case is a folder of
   words   the words, one a line      in    standard input
   status  the exit status            out   standard output, byte for byte      err   standard error, byte for byte
 
+After them come cases that are made here: each front of a theory with the place of its fault, inputs of the greatest size and
+one byte more, and three texts with every kind of token in every place, whose faults viable.py tells.
+
 The last line is 'N passed, N failed'; the exit status is 0 where none failed and some passed.
 """
+import concurrent.futures
 import os
+import re
 import subprocess
 import sys
+
+import viable
 
 HERE = os.path.dirname(os.path.abspath(__file__))
 
@@ -20,12 +27,69 @@ def read(case, name):
         return file.read()
 
 
-def faults(program, case):
+INC = b'theory Inc version 1 begin program put :: nat => nat; spec x . x < 3 --> x < put x; end'
+LONGEST = 16_777_216
+
+
+def stored():
+    """The cases of the folder: name, words, input, status, output and what is on standard error."""
+    for case in sorted(os.listdir(os.path.join(HERE, 'cases'))):
+        yield (case, read(case, 'words').decode().splitlines(), read(case, 'in'), int(read(case, 'status')), read(case, 'out'),
+               read(case, 'err'))
+
+
+def cuts():
+    """No front of the theory is a text: its fault stands behind the words that begin a declaration."""
+    for size in range(len(INC)):
+        front = INC[:size]
+        line = b'refused form at declaration %d\n' % len(re.findall(rb'\b(?:program|spec)\b', front))
+        yield f'cut-after-{size}-bytes', ['generate'], front, 6, line, line
+
+
+def sizes():
+    """A theory behind a comment that fills the input up to the greatest size, and up to one byte more."""
+    report = read('class-with-datum', 'out')
+    limit = b'limit input 16777216\n'
+    for size, status, out, err in ((LONGEST, 0, report, b''), (LONGEST + 1, 7, limit, limit)):
+        comment = b'(*' + b' ' * (size - len(INC) - 4) + b'*)'
+        yield f'input-of-{size}-bytes', ['generate'], comment + INC, status, out, err
+
+
+SMALL = (
+    ('generate', 'Theory', INC.decode().replace(';', ' ;').split()),
+    ('generate', 'Theory', "theory S version 1 begin datatype 'a t = A | B 'a ( 'a t ) ; primrec f :: nat t => nat where f A = 0 ; "
+     'f ( B y ys ) = y ; spec x . let y = f x in ~ y * 2 < Suc y & ( case x of { A => True , B z zs => z = 1 } ) ; end'),
+    ('judge', 'Judge', 'theory O version 1 begin end outcomes depth 3 bound 8 seed 1 tries 1000 width 16 begin answer 1 ( A 2 ) ; '
+     'raised 2 ; end'),
+)
+KINDS = [*'(){}[],;.=<+-*&|~?!', '<=', '-->', '=>', '::', *sorted(viable.RESERVED), 'word', "'a", '0', '1', '7', 'depth', 'bound',
+         'seed', 'tries', 'width', 'answer', 'raised', 'ALL', 'EX', 'THYP', 'tested', 'hyp', 'deep']
+
+
+def tokens():
+    """Three small texts with one token put in place of each, and behind the last."""
+    for number, (command, part, text) in enumerate(SMALL):
+        text = text.split() if isinstance(text, str) else text
+        for at in range(len(text) + 1):
+            for kind in KINDS:
+                changed = [*text[:at], kind, *text[at + 1:]]
+                place = viable.place(part, changed)
+                line = None if place is None else b'refused form at declaration %d\n' % place
+                yield f'text-{number}-with-{kind}-at-{at}', [command], ' '.join(changed).encode(), line
+
+
+def token_faults(program, words, data, line):
+    """Where the text is none, its line is printed; where it is one, any other line or a report."""
+    run = subprocess.run([program, *words], input=data, stdout=subprocess.PIPE, stderr=subprocess.PIPE, timeout=120)
+    if line is None:
+        return [f'  {run.stdout!r} of a text'] if run.stdout.startswith(b'refused form') else []
+    return [] if run.stdout == line and run.returncode == 6 else [f'  {run.stdout!r}\n  in place of {line!r}']
+
+
+def faults(program, words, data, status, out, err):
     """What a case shows in place of what it should, a line each."""
-    run = subprocess.run([program, *read(case, 'words').decode().splitlines()], input=read(case, 'in'),
-                         stdout=subprocess.PIPE, stderr=subprocess.PIPE, timeout=120)
-    pairs = [('status', run.returncode, int(read(case, 'status'))), ('out', run.stdout, read(case, 'out')),
-             ('err', run.stderr, read(case, 'err'))]
+    run = subprocess.run([program, *words], input=data, stdout=subprocess.PIPE, stderr=subprocess.PIPE, timeout=120)
+    pairs = [('status', run.returncode, status), ('out', run.stdout, out), ('err', run.stderr, err)]
     return [f'  {name}: {have!r}\n  in place of {want!r}' for name, have, want in pairs if have != want]
 
 
@@ -34,14 +98,15 @@ def main():
     if not os.access(program, os.X_OK):
         print(f'no program stands at {program}: rt ci makes it\n0 passed, 1 failed')
         return 1
+    cases = [(faults, case) for case in (*stored(), *cuts(), *sizes())] + [(token_faults, case) for case in tokens()]
     passed = failed = 0
-    for case in sorted(os.listdir(os.path.join(HERE, 'cases'))):
-        found = faults(program, case)
-        if found:
-            failed += 1
-            print('\n'.join([f'FAILED {case}', *found]))
-        else:
-            passed += 1
+    with concurrent.futures.ThreadPoolExecutor() as pool:
+        for (_, case), found in zip(cases, pool.map(lambda c: c[0](program, *c[1][1:]), cases)):
+            if found:
+                failed += 1
+                print('\n'.join([f'FAILED {case[0]}', *found]))
+            else:
+                passed += 1
     print(f'{passed} passed, {failed} failed')
     return 1 if failed or not passed else 0
 

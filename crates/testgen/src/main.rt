@@ -44,7 +44,8 @@ fn explain(rt: &impl Eprint, answer: &Answer) {
         Answer::ReadFault => eprintln!(rt; "read fault"),
         Answer::WriteFault { written } => eprintln!(rt; "write fault after {written} bytes"),
         Answer::Memory => eprintln!(rt; "out of memory"),
-        Answer::Refused(refusal) => eprintln!(rt; "{}", refusal.line()),
+        Answer::Refused(refusal) => eprintln!(rt; "{refusal}"),
+        Answer::Limit(limit) => eprintln!(rt; "{limit}"),
         Answer::Done | Answer::TestsFailed | Answer::Usage => Ok(()),
     };
 }

@@ -1,7 +1,8 @@
+pub mod Choices
+pub mod Completeness
 pub mod Derivations
+pub mod Forms
 pub mod KnownTexts
-pub mod Reading
-pub mod ReadingOutcomes
-pub mod Reports
+pub mod Outputs
 pub mod Texts
 pub mod Truths

@@ -4,8 +4,9 @@ use Rattle.std.specs.Prelude.{codes, decimal}
 use Rattle.std.proofs.lemmas.Fmt.{decimal_digit}
 use Rattle.tg_cmd.specs.declared.form.Relation.{Relation}
 use Rattle.tg_cmd.specs.declared.form.Relation.TheVariants.{Less, LessEqual}
-use Rattle.tg_cmd.specs.Form.{Form, sign}
-use Rattle.tg_cmd.specs.Report.{head_text, class_text, test_text, open_text, conclusion_text}
+use Rattle.tg_types.specs.declared.options.Settings.{Settings}
+use Rattle.tg_cmd.specs.Form.{Form}
+use Rattle.tg_cmd.specs.Report.{sign, head_text, class_text, test_text, open_text, conclusion_text}
 
 zero_text : decimal 0 ≡ codes "0"
 zero_text = decimal_digit 0 (lit< tt)
@@ -89,9 +90,9 @@ head_parts name depth bound seed tries width =
     codes "testgen " ++ (name ++ (codes "\nsettings depth " ++ (decimal depth ++ (codes " bound " ++ (decimal bound ++ (codes " seed " ++ (decimal seed
     ++ (codes " tries " ++ (decimal tries ++ (codes " width " ++ (decimal width ++ codes "\n")))))))))))
 
-pub head_opened : (f : Form) (depth bound tries width : ℕ) → depth ≡ 3 → bound ≡ 8 → tries ≡ 1000 → width ≡ 16
-    → head_parts f.name depth bound 1 tries width ≡ head_text f
+pub head_opened : (s : Settings) (f : Form) (depth bound tries width : ℕ) → depth ≡ s.depth → bound ≡ s.bound → tries ≡ s.tries → width ≡ s.width
+    → head_parts f.name depth bound s.seed tries width ≡ head_text s f
 unfolding head_text
-head_opened f depth bound tries width d b t w =
-    ap (λ n. head_parts f.name n bound 1 tries width) d ∙ ap (λ n. head_parts f.name 3 n 1 tries width) b
-    ∙ ap (λ n. head_parts f.name 3 8 1 n width) t ∙ ap (λ n. head_parts f.name 3 8 1 1000 n) w
+head_opened s f depth bound tries width d b t w =
+    ap (λ n. head_parts f.name n bound s.seed tries width) d ∙ ap (λ n. head_parts f.name s.depth n s.seed tries width) b
+    ∙ ap (λ n. head_parts f.name s.depth s.bound s.seed n width) t ∙ ap (λ n. head_parts f.name s.depth s.bound s.seed s.tries n) w

@@ -1,12 +1,12 @@
 pub mod Answers
 pub mod Form
+pub mod Options
 pub mod Outcomes
 pub mod Output
-pub mod Parts
-pub mod Pieces
+pub mod Reading
 pub mod Report
 pub mod Text
 pub mod Theorem
 pub mod Truths
 pub mod Verdicts
-pub mod Words
+pub mod Views

@@ -1,107 +1,116 @@
 -- What a run reads and writes.
-use Rattle.std.specs.Prelude.{ℕ, ◌+◌, ◌≡◌, ◌<◌, ◌≤◌, ◌⊎◌, List, [], ◌∷◌, ◌++◌, length, take, codes, IfSome}
-use Rattle.std.specs.Prelude.{Option, Some, None}
+use Rattle.std.specs.Prelude.{ℕ, ◌+◌, ◌≡◌, ◌<◌, ◌≤◌, ◌⊎◌, List, length, take, Option, Some, None, IfSome}
 use Rattle.std.specs.Io.KnownBytes.{Consumes, IsAtEnd, Appends}
 use Rattle.tg_io.specs.Faults.{Rose}
+use Rattle.tg_types.specs.declared.options.Settings.{Settings}
+use Rattle.tg_grammar.specs.declared.declarations.RawTheory.{RawTheory}
+use Rattle.tg_grammar.specs.declared.outcomes.RawOutcomes.{RawOutcomes}
+use Rattle.tg_grammar.specs.Parts.{Part, Value, Theory}
+use Rattle.tg_grammar.specs.Parts as parts
+use Rattle.tg_syntax.specs.declared.parsing.FormErr.{FormErr}
+use Rattle.tg_syntax.specs.declared.parsing.FormErr.TheVariants as errors
 use Rattle.tg_cmd.specs.declared.answer.Answer.{Answer}
-use Rattle.tg_cmd.specs.declared.answer.Answer.TheVariants.{Done, TestsFailed, Usage, ReadFault, WriteFault, Memory, Refused}
+use Rattle.tg_cmd.specs.declared.answer.Answer.TheVariants.{Done, TestsFailed, Usage, ReadFault, WriteFault, Memory, Refused, Limit}
 use Rattle.tg_cmd.specs.declared.answer.Refusal.TheVariants.{Early}
+use Rattle.tg_cmd.specs.declared.answer.Refusal.TheVariants as refusals
+use Rattle.tg_cmd.specs.declared.answer.LimitName.TheVariants.{Input, Number, Nesting}
 use Rattle.tg_cmd.specs.declared.command.Command.{Command}
 use Rattle.tg_cmd.specs.declared.command.Command.TheVariants.{Generate, Judge}
-use Rattle.tg_cmd.specs.Answers.{line_of}
-use Rattle.tg_cmd.specs.Form.{Form, Reads}
+use Rattle.tg_cmd.specs.Answers.{refusal_line, limit_line}
+use Rattle.tg_cmd.specs.Form.{Form, HasForm}
+use Rattle.tg_cmd.specs.Outcomes.{AreOutcomes}
+use Rattle.tg_cmd.specs.Reading.{IsTextOf, HasTokenFault, HasFormFault, IsTooLarge, IsTooNested, ReadsForm, ReadsJudged}
 use Rattle.tg_cmd.specs.Report.{report}
 use Rattle.tg_cmd.specs.Theorem.{has_datum}
 use Rattle.tg_cmd.specs.Truths.{IsTrueTheorem, IsHeadline}
 use Rattle.tg_cmd.specs.Verdicts.{verdict, answer_on}
-use Rattle.tg_cmd.specs.Outcomes.{ReadsJudged}
-
--- the words of a command
-abbrev pub words_of : Command → List (List ℕ)
-words_of Generate = codes "generate" ∷ []
-words_of Judge = codes "judge" ∷ []
-
--- they are the one word `generate` or the one word `judge`
-abbrev pub IsCommand : List (List ℕ) → Type 0
-IsCommand words = (words ≡ words_of Generate) ⊎ (words ≡ words_of Judge)
 
 -- how many bytes are read at the most
 abbrev pub longest : ℕ
-longest = 1000
+longest = 16777216
 
--- the text is the report of the one form that the input reads as, and what it prints holds
-pub record IsReport (input text : List ℕ) : Type 0 where
+-- what is read for a command
+abbrev pub part_of : Command → Part
+part_of Generate = Theory
+part_of Judge = parts.Judge
+
+-- The text is the report of the one form that the input reads as, and what it prints holds.
+pub record IsReport (s : Settings) (input text : List ℕ) : Type 0 where
   pub form : Form
-  pub short : length input ≤ longest
-  pub reads : Reads input form
-  pub only : (f : Form) → Reads input f → f ≡ form
-  pub printed : text ≡ report form None
+  pub reads : ReadsForm input form
+  pub only : (f : Form) → ReadsForm input f → f ≡ form
+  pub printed : text ≡ report s form None
   pub theorem : IsTrueTheorem form (has_datum form)
 
--- the text is the report, with the verdict, of the one form and the one outcome that the input reads as, the answer is
--- `TestsFailed` exactly where the verdict is `Failed`, and what is printed holds
-pub record IsJudgement (input : List ℕ) (answer : Answer) (text : List ℕ) : Type 0 where
+-- The text is the report, with the verdict, of the one form and the one outcome that the input reads as, the answer is
+-- `TestsFailed` exactly where the verdict is `Failed`, and what is printed holds.
+pub record IsJudgement (s : Settings) (input : List ℕ) (answer : Answer) (text : List ℕ) : Type 0 where
   pub form : Form
   pub outcome : Option ℕ
-  pub short : length input ≤ longest
-  pub reads : ReadsJudged input form outcome
-  pub only : (f : Form) (o : Option ℕ) → ReadsJudged input f o → (f ≡ form) × (o ≡ outcome)
-  pub printed : text ≡ report form (Some (verdict form outcome))
+  pub reads : ReadsJudged s input form outcome
+  pub only : (f : Form) (o : Option ℕ) → ReadsJudged s input f o → (f ≡ form) × (o ≡ outcome)
+  pub printed : text ≡ report s form (Some (verdict form outcome))
   pub ends : answer ≡ answer_on (verdict form outcome)
   pub headline : IsHeadline form outcome (verdict form outcome)
 
 -- how a run ends whose report was written
-abbrev pub IsReported : Command → List ℕ → Answer → List ℕ → Type 0
-IsReported Generate input answer text = IsReport input text × (answer ≡ Done)
-IsReported Judge input answer text = IsJudgement input answer text
+abbrev pub IsReported : Command → Settings → List ℕ → Answer → List ℕ → Type 0
+IsReported Generate s input answer text = IsReport s input text × (answer ≡ Done)
+IsReported Judge s input answer text = IsJudgement s input answer text
 
-abbrev pub IsUnread : Command → List ℕ → Type 0
-IsUnread Generate input = (f : Form) → Reads input f → ⊥
-IsUnread Judge input = (f : Form) (o : Option ℕ) → ReadsJudged input f o → ⊥
+-- the input is no theory of the form, or no such theory with an outcome of its test
+abbrev pub HasOtherForm : Command → Settings → List ℕ → Type 0
+HasOtherForm Generate s input = (f : Form) → ReadsForm input f → ⊥
+HasOtherForm Judge s input = (f : Form) (o : Option ℕ) → ReadsJudged s input f o → ⊥
 
--- the input is too long or reads as nothing that the command takes, and the text is the line that says so
-pub record IsRefused (command : Command) (input text : List ℕ) : Type 0 where
-  pub cause : (longest < length input) ⊎ IsUnread command input
-  pub printed : text ≡ line_of Early ++ codes "\n"
+-- the input is a text of the grammar that has another form
+abbrev pub IsEarly : Command → Settings → List ℕ → Type 0
+IsEarly command s input = (value : Value (part_of command)) × IsTextOf (part_of command) input value × HasOtherForm command s input
 
 -- what a run of the command that ends with the answer has to write, where the source held `input`
-abbrev pub IsOutput : Command → List ℕ → Answer → List ℕ → Type 0
-IsOutput command input Done text = IsReported command input Done text
-IsOutput command input TestsFailed text = IsReported command input TestsFailed text
-IsOutput command input (Refused Early) text = IsRefused command input text
-IsOutput command input Usage text = ⊥
-IsOutput command input ReadFault text = ⊥
-IsOutput command input (WriteFault written) text = ⊥
-IsOutput command input Memory text = ⊥
+abbrev pub IsOutput : Command → Settings → List ℕ → Answer → List ℕ → Type 0
+IsOutput command s input Done text = (length input ≤ longest) × IsReported command s input Done text
+IsOutput command s input TestsFailed text = (length input ≤ longest) × IsReported command s input TestsFailed text
+IsOutput command s input (Refused Early) text = (length input ≤ longest) × IsEarly command s input × (text ≡ refusal_line Early)
+IsOutput command s input (Refused (refusals.Form place)) text =
+    (length input ≤ longest) × HasFormFault (part_of command) input place × (text ≡ refusal_line (refusals.Form place))
+IsOutput command s input (Limit Input) text = (longest < length input) × (text ≡ limit_line Input)
+IsOutput command s input (Limit Number) text = (length input ≤ longest) × IsTooLarge input × (text ≡ limit_line Number)
+IsOutput command s input (Limit Nesting) text = (length input ≤ longest) × IsTooNested input × (text ≡ limit_line Nesting)
+IsOutput command s input Usage text = ⊥
+IsOutput command s input ReadFault text = ⊥
+IsOutput command s input (WriteFault written) text = ⊥
+IsOutput command s input Memory text = ⊥
 
 -- the source was read to its end, or to one byte past the longest input
 abbrev pub IsRead : Option (List ℕ) → Option (List ℕ) → Type 0
 IsRead old new = IsAtEnd new ⊎ ((bytes : List ℕ) × Consumes old new bytes × (length bytes ≡ longest + 1))
 
 -- the whole of the output was written
-pub record Writes (command : Command) (answer : Answer) (left old new : Option (List ℕ)) : Type 0 where
+pub record Writes (command : Command) (s : Settings) (answer : Answer) (left old new : Option (List ℕ)) : Type 0 where
   pub text : List ℕ
-  pub output : IfSome left (λ input. IsOutput command input answer text)
+  pub output : IfSome left (λ input. IsOutput command s input answer text)
   pub appended : Appends old new text
 
 -- exactly the first `written` bytes of an output were written
-pub record WritesFront (command : Command) (written : ℕ) (left old new : Option (List ℕ)) : Type 0 where
+pub record WritesFront (command : Command) (s : Settings) (written : ℕ) (left old new : Option (List ℕ)) : Type 0 where
   pub answer : Answer
   pub text : List ℕ
-  pub output : IfSome left (λ input. IsOutput command input answer text)
+  pub output : IfSome left (λ input. IsOutput command s input answer text)
   pub part : written < length text
   pub appended : Appends old new (take written text)
 
 -- what an answer of a command says of the bytes: `left` and `left'` are those that the source has left before and after the run, `old`
 -- and `new` those that the sink has taken
-abbrev pub HasBytes : Command → Answer → Option (List ℕ) → Option (List ℕ) → Option (List ℕ) → Option (List ℕ) → Type 0
-HasBytes command Done left left' old new = IsRead left left' × Writes command Done left old new
-HasBytes command TestsFailed left left' old new = IsRead left left' × Writes command TestsFailed left old new
-HasBytes command (Refused refusal) left left' old new = IsRead left left' × Writes command (Refused refusal) left old new
-HasBytes command (WriteFault written) left left' old new = IsRead left left' × WritesFront command written left old new
-HasBytes command Usage left left' old new = Unit {0}
-HasBytes command ReadFault left left' old new = Unit {0}
-HasBytes command Memory left left' old new = Unit {0}
+abbrev pub HasBytes : Command → Settings → Answer → Option (List ℕ) → Option (List ℕ) → Option (List ℕ) → Option (List ℕ) → Type 0
+HasBytes command s Done left left' old new = IsRead left left' × Writes command s Done left old new
+HasBytes command s TestsFailed left left' old new = IsRead left left' × Writes command s TestsFailed left old new
+HasBytes command s (Refused refusal) left left' old new = IsRead left left' × Writes command s (Refused refusal) left old new
+HasBytes command s (Limit name) left left' old new = IsRead left left' × Writes command s (Limit name) left old new
+HasBytes command s (WriteFault written) left left' old new = IsRead left left' × WritesFront command s written left old new
+HasBytes command s Usage left left' old new = Unit {0}
+HasBytes command s ReadFault left left' old new = Unit {0}
+HasBytes command s Memory left left' old new = Unit {0}
 
 -- nothing is written at these answers
 abbrev pub IsSilent : Answer → Type 0
@@ -112,6 +121,7 @@ IsSilent Done = ⊥
 IsSilent TestsFailed = ⊥
 IsSilent (WriteFault written) = ⊥
 IsSilent (Refused refusal) = ⊥
+IsSilent (Limit name) = ⊥
 
 abbrev pub IsWriteFault : Answer → Type 0
 IsWriteFault (WriteFault written) = Unit {0}
@@ -121,6 +131,7 @@ IsWriteFault Usage = ⊥
 IsWriteFault ReadFault = ⊥
 IsWriteFault Memory = ⊥
 IsWriteFault (Refused refusal) = ⊥
+IsWriteFault (Limit name) = ⊥
 
 -- why no output could be made: a read fault, where the source's count rose, or want of memory
 abbrev pub IsStop : Answer → ℕ → ℕ → Type 0
@@ -131,3 +142,49 @@ IsStop TestsFailed before after = ⊥
 IsStop Usage before after = ⊥
 IsStop (WriteFault written) before after = ⊥
 IsStop (Refused refusal) before after = ⊥
+IsStop (Limit name) before after = ⊥
+
+-- ---- completeness
+
+-- a fault of the source or of the sink, or want of memory
+abbrev pub IsInterrupted : Answer → Type 0
+IsInterrupted ReadFault = Unit {0}
+IsInterrupted (WriteFault written) = Unit {0}
+IsInterrupted Memory = Unit {0}
+IsInterrupted Done = ⊥
+IsInterrupted TestsFailed = ⊥
+IsInterrupted Usage = ⊥
+IsInterrupted (Refused refusal) = ⊥
+IsInterrupted (Limit name) = ⊥
+
+-- An input of the form is answered with its report, unless the run is interrupted.
+abbrev pub Completes : Command → Settings → List ℕ → Answer → Type 0
+Completes Generate s input answer = length input ≤ longest → (f : Form) → ReadsForm input f → (answer ≡ Done) ⊎ IsInterrupted answer
+Completes Judge s input answer =
+    length input ≤ longest → (f : Form) (o : Option ℕ) → ReadsJudged s input f o → (answer ≡ answer_on (verdict f o)) ⊎ IsInterrupted answer
+
+-- ---- how a run comes to its output
+
+-- the output of a theory as it is read
+abbrev pub IsReportOf : Settings → RawTheory → Answer → List ℕ → Type 0
+IsReportOf s theory answer text =
+    ((f : Form) × HasForm theory f × (answer ≡ Done) × (text ≡ report s f None))
+    ⊎ (((f : Form) → HasForm theory f → ⊥) × (answer ≡ Refused Early) × (text ≡ refusal_line Early))
+
+-- the output of a theory and its outcomes as they are read
+abbrev pub IsJudgementOf : Settings → RawTheory → RawOutcomes → Answer → List ℕ → Type 0
+IsJudgementOf s theory outcomes answer text =
+    ((f : Form) × (o : Option ℕ) × HasForm theory f × AreOutcomes s f outcomes o × (answer ≡ answer_on (verdict f o)) × (text ≡ report s f (Some (verdict f o))))
+    ⊎ (((f : Form) (o : Option ℕ) → HasForm theory f → AreOutcomes s f outcomes o → ⊥) × (answer ≡ Refused Early) × (text ≡ refusal_line Early))
+
+-- the output where the tokens are no text
+abbrev pub IsFaultLine : FormErr → Answer → List ℕ → Type 0
+IsFaultLine errors.Nested answer text = (answer ≡ Limit Nesting) × (text ≡ limit_line Nesting)
+IsFaultLine (errors.Form place) answer text = (answer ≡ Refused (refusals.Form place)) × (text ≡ refusal_line (refusals.Form place))
+IsFaultLine errors.Memory answer text = ⊥
+
+-- the output where the bytes have no tokens
+abbrev pub HasTokenLine : List ℕ → Answer → List ℕ → Type 0
+HasTokenLine bytes answer text =
+    ((place : ℕ) × HasTokenFault bytes place × (answer ≡ Refused (refusals.Form place)) × (text ≡ refusal_line (refusals.Form place)))
+    ⊎ (IsTooLarge bytes × (answer ≡ Limit Number) × (text ≡ limit_line Number))

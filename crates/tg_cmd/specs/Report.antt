@@ -5,6 +5,8 @@ use Rattle.tg_types.specs.declared.verdicts.Verdict.{Verdict}
 use Rattle.tg_types.specs.declared.verdicts.Verdict.TheVariants.{Passed, Failed, Undecided, Raised, Missing, NoDatum}
 use Rattle.tg_model.specs.Tree.{Tree, free}
 use Rattle.tg_model.specs.Formula.{Formula}
+use Rattle.tg_cmd.specs.declared.form.Relation.{Relation}
+use Rattle.tg_cmd.specs.declared.form.Relation.TheVariants.{Less, LessEqual}
 use Rattle.tg_cmd.specs.Form.{Form}
 use Rattle.tg_cmd.specs.Text.{Shown, written, number, chain, term, formula}
 use Rattle.tg_cmd.specs.Theorem.{constraint_at, check_at, theory_of, test_of, uniformity_of, open_class_of, conclusion_of, has_datum}
@@ -19,8 +21,9 @@ abbrev pub settings : Settings → Shown
 settings s = chain (written (codes "depth ") ∷ number s.depth ∷ written (codes " bound ") ∷ number s.bound ∷ written (codes " seed ") ∷ number s.seed
     ∷ written (codes " tries ") ∷ number s.tries ∷ written (codes " width ") ∷ number s.width ∷ [])
 
-abbrev pub default_settings : Settings
-default_settings = record { depth = 3; bound = 8; seed = 1; tries = 1000; width = 16 }
+abbrev pub sign : Relation → List ℕ
+sign Less = codes "<"
+sign LessEqual = codes "<="
 
 -- a word and then a term or a formula
 abbrev pub term_line : List ℕ → Form → Tree → Shown
@@ -29,9 +32,9 @@ term_line word f t = chain (written word ∷ written (codes " ") ∷ term (theor
 abbrev pub formula_line : List ℕ → Form → Formula → Shown
 formula_line word f g = chain (written word ∷ written (codes " ") ∷ formula (theory_of f) 0 g ∷ [])
 
-unfoldable pub head_text : Form → List ℕ
-head_text f =
-    lines (chain (written (codes "testgen ") ∷ written f.name ∷ []) ∷ chain (written (codes "settings ") ∷ settings default_settings ∷ []) ∷ [])
+unfoldable pub head_text : Settings → Form → List ℕ
+head_text s f =
+    lines (chain (written (codes "testgen ") ∷ written f.name ∷ []) ∷ chain (written (codes "settings ") ∷ settings s ∷ []) ∷ [])
 
 -- the one class; its pattern is a variable
 unfoldable pub class_text : Form → List ℕ
@@ -82,5 +85,5 @@ abbrev pub counts_text : Form → Option Verdict → List ℕ
 counts_text f v = lines (written (counts f v) ∷ [])
 
 -- the report with a verdict, where outcomes were judged, or without one
-unfoldable pub report : Form → Option Verdict → List ℕ
-report f v = head_text f ++ (class_text f ++ (datum_text f ++ (verdict_text v ++ (hypotheses_text f (is_tested f v) ++ (conclusion_text f ++ counts_text f v)))))
+unfoldable pub report : Settings → Form → Option Verdict → List ℕ
+report s f v = head_text s f ++ (class_text f ++ (datum_text f ++ (verdict_text v ++ (hypotheses_text f (is_tested f v) ++ (conclusion_text f ++ counts_text f v)))))

@@ -1,5 +1,5 @@
 -- What a recorded answer says of the class.
-use Rattle.std.specs.Prelude.{ℕ, Bool, true, false, ◌≡◌, ◌<◌, ◌^◌, List, codes, Option, Some, None, if◌then◌else◌}
+use Rattle.std.specs.Prelude.{ℕ, Bool, true, false, ◌≡◌, List, codes, Option, Some, None, if◌then◌else◌}
 use Rattle.tg_types.specs.declared.verdicts.Verdict.{Verdict}
 use Rattle.tg_types.specs.declared.verdicts.Verdict.TheVariants.{Passed, Failed, Undecided, Raised, Missing, NoDatum}
 use Rattle.tg_cmd.specs.declared.answer.Answer.{Answer}
@@ -7,11 +7,10 @@ use Rattle.tg_cmd.specs.declared.answer.Answer.TheVariants.{Done, TestsFailed}
 use Rattle.tg_cmd.specs.Form.{Form}
 use Rattle.tg_cmd.specs.Theorem.{meets, has_datum}
 
--- The outcome is the answer that is recorded of the test at 0, where one is. It has at most 18 digits, and only a class with a
--- datum has a test.
+-- The outcome is the answer that is recorded of the test at 0, where one is. Only a class with a datum has a test.
 abbrev pub IsOutcome : Form → Option ℕ → Type 0
 IsOutcome f None = Unit {0}
-IsOutcome f (Some answer) = (answer < 10 ^ 18) × (has_datum f ≡ true)
+IsOutcome f (Some answer) = has_datum f ≡ true
 
 -- the check at 0 with the recorded answer
 abbrev pub verdict_on : Form → Option ℕ → Verdict

@@ -1,5 +1,10 @@
-ghost use Rattle.std.specs.Prelude.{◌≡◌};
-ghost use Rattle.tg_cmd.specs.Answers.{status_of, line_of};
+ghost use Rattle.std.specs.Prelude.{◌≡◌, ◌++◌, OnOk};
+ghost use Rattle.tg_cmd.specs.Answers.{status_of, refusal_line, limit_line};
+
+use std::alloc::AllocError;
+use tg_text::Part::{Number, Text};
+use tg_text::put;
+use thiserror::Error;
 
 /// How a run ended.
 #[derive(Clone, Copy, Debug, PartialEq, Eq)]
@@ -21,13 +26,37 @@ pub enum Answer {
     Memory,
     /// The input was refused, and one line was written that says so.
     Refused(Refusal),
+    /// The input passes a limit, and one line was written that says so.
+    Limit(LimitName),
 }
 
 /// Why an input was refused.
-#[derive(Clone, Copy, Debug, PartialEq, Eq)]
+#[derive(Clone, Copy, Debug, PartialEq, Eq, Error)]
 pub enum Refusal {
-    /// The input is longer than 1,000 bytes, or not of the form that is read so far.
+    /// The input is a text of the grammar, but not of the form that is taken so far.
+    #[error("refused early")]
     Early,
+    /// The input is no text of the grammar.
+    #[error("refused form at declaration {decl}")]
+    Form {
+        /// How many of the words `datatype`, `primrec`, `definition`, `program`, `spec`, `outcomes` and
+        /// `certificate` stand before the fault.
+        decl: u64,
+    },
+}
+
+/// What an input can have too much of.
+#[derive(Clone, Copy, Debug, PartialEq, Eq, Error)]
+pub enum LimitName {
+    /// More than 16,777,216 bytes.
+    #[error("limit input 16777216")]
+    Input,
+    /// A number of 2^64 or more.
+    #[error("limit number 18446744073709551615")]
+    Number,
+    /// A load of nesting above 400.
+    #[error("limit nesting 400")]
+    Nesting,
 }
 
 /// How a run ends whose output was written.
@@ -36,10 +65,12 @@ pub(crate) enum Ending {
     Done,
     TestsFailed,
     Refused(Refusal),
+    Limit(LimitName),
 }
 
 impl Answer {
-    /// The exit status: 0 `Done`, 1 `TestsFailed`, 2 `Usage`, 3 `ReadFault`, 4 `WriteFault`, 5 `Memory`, 6 `Refused`.
+    /// The exit status: 0 `Done`, 1 `TestsFailed`, 2 `Usage`, 3 `ReadFault`, 4 `WriteFault`, 5 `Memory`,
+    /// 6 `Refused`, 7 `Limit`.
     pub fn status(&self) -> u8
         ensures { result ≡ status_of self.now }
     {
@@ -51,17 +82,35 @@ impl Answer {
             Answer::WriteFault { .. } => 4,
             Answer::Memory => 5,
             Answer::Refused(_) => 6,
+            Answer::Limit(_) => 7,
         }
     }
 }
 
-impl Refusal {
-    /// The line that is written in place of a result, without its LF.
-    pub fn line(&self) -> &'static str
-        ensures { result.now ≡ line_of self.now }
-    {
-        match self {
-            Refusal::Early => "refused early",
-        }
+/// The line that is written in place of a result.
+pub(crate) fn put_refusal(out: &mut Vec<u8>, refusal: Refusal) -> Result<(), AllocError>
+    ensures { OnOk result (out.new.items ≡ out.old.items ++ refusal_line refusal) }
+{
+    match refusal {
+        Refusal::Early => put(out, &[Text(b"refused early\n")]),
+        Refusal::Form { decl } => put(
+            out,
+            &[
+                Text(b"refused form at declaration "),
+                Number(decl),
+                Text(b"\n"),
+            ],
+        ),
+    }
+}
+
+/// The line that is written in place of a result.
+pub(crate) fn put_limit(out: &mut Vec<u8>, name: LimitName) -> Result<(), AllocError>
+    ensures { OnOk result (out.new.items ≡ out.old.items ++ limit_line name) }
+{
+    match name {
+        LimitName::Input => put(out, &[Text(b"limit input 16777216\n")]),
+        LimitName::Number => put(out, &[Text(b"limit number 18446744073709551615\n")]),
+        LimitName::Nesting => put(out, &[Text(b"limit nesting 400\n")]),
     }
 }

@@ -1,12 +1,13 @@
-ghost use Rattle.std.specs.Prelude.{◌≡◌, ◌≢◌, ◌++◌, ◌<◌, ◌^◌, ◌↔◌, IsTrue, IfOk, MatchOption, option_map, codes, decimal};
-ghost use Rattle.tg_cmd.specs.Form.{header_of, program_of, premise_of, conclusion_of, parts_of, whole_of, sign, are_names, HasNames, Repeats, HasParts, Reads};
-ghost use Rattle.tg_cmd.specs.Parts.{premise_view, conclusion_view, parts_view, form_view};
-ghost use Rattle.tg_cmd.specs.Pieces.{texts};
+//! The form of theory that gets a report so far, in the theory as it is read.
+ghost use Rattle.std.specs.Prelude.{◌≡◌, [], ◌∷◌, IsTrue, ◌↔◌, MatchOption};
+ghost use Rattle.tg_grammar.specs.declared.terms.RawTerm.TheVariants as terms;
+ghost use Rattle.tg_grammar.specs.declared.declarations.RawDecl.TheVariants as declarations;
+ghost use Rattle.tg_grammar.specs.declared.types.RawTy.TheVariants as types;
+ghost use Rattle.tg_cmd.specs.Form.{compared, named, called, implied, HasForm};
+ghost use Rattle.tg_cmd.specs.Views.{form_view};
 
-use crate::pieces::{after, at_end, first_piece, pieces};
-use crate::words::is_name;
-use itoa::Buffer;
-use std::alloc::{AllocError, Global};
+use tg_grammar::kinds::{ARROW, LESS, LESS_EQUAL};
+use tg_grammar::{RawDecl, RawTerm, RawTheory, RawTy};
 
 /// A comparison of naturals.
 #[derive(Clone, Copy, Debug, PartialEq, Eq)]
@@ -17,7 +18,7 @@ pub enum Relation {
     LessEqual,
 }
 
-/// A theory of the form that is read, `theory NAME version 1 begin program PROGRAM :: nat => nat;
+/// A theory of the form, `theory NAME version 1 begin program PROGRAM :: nat => nat;
 /// spec VARIABLE . VARIABLE CONSTRAINT LIMIT --> VARIABLE CHECK PROGRAM VARIABLE; end`.
 #[derive(Clone, Copy, Debug)]
 pub(crate) struct Form<'a> {
@@ -25,224 +26,194 @@ pub(crate) struct Form<'a> {
     pub(crate) program: &'a [u8],
     pub(crate) variable: &'a [u8],
     pub(crate) constraint: Relation,
-    /// below 10^18
     pub(crate) limit: u64,
     pub(crate) check: Relation,
 }
 
-/// `spec VARIABLE . LEFT CONSTRAINT LIMIT -->`, as its pieces stand.
+/// The two sides of a comparison.
 #[derive(Clone, Copy, Debug)]
-pub(crate) struct Premise<'a> {
-    variable: &'a [u8],
-    left: &'a [u8],
-    constraint: &'a [u8],
-    limit: &'a [u8],
+struct Compared<'a> {
+    relation: Relation,
+    left: &'a RawTerm,
+    right: &'a RawTerm,
 }
 
-/// `LEFT CHECK CALLED ARGUMENT end`, as its pieces stand.
+/// What a specification of the form says of its variable.
 #[derive(Clone, Copy, Debug)]
-pub(crate) struct Conclusion<'a> {
-    left: &'a [u8],
-    check: &'a [u8],
-    called: &'a [u8],
-    argument: &'a [u8],
+struct Comparisons {
+    constraint: Relation,
+    limit: u64,
+    check: Relation,
 }
 
-/// The pieces of a theory that are no fixed words.
-#[derive(Clone, Copy, Debug)]
-pub(crate) struct Parts<'a> {
-    name: &'a [u8],
-    program: &'a [u8],
-    premise: Premise<'a>,
-    conclusion: Conclusion<'a>,
-}
-
-/// The form that a text reads as, if it is one.
-pub(crate) fn read_form(alloc: Global, bytes: &[u8]) -> Result<Option<Form<'_>>, AllocError>
-    ensures { IfOk result (λ o. MatchOption o ((f : _) → Reads bytes.now f → ⊥) (λ f. Reads bytes.now (form_view f))) }
+/// The form that a theory has, if it has it.
+pub(crate) fn form_of(theory: &RawTheory) -> Option<Form<'_>>
+    ensures { MatchOption result ((f : _) → HasForm theory.now f → ⊥) (λ f. HasForm theory.now (form_view f)) }
 {
-    let pieces = pieces(alloc, bytes)?;
-    match read_whole(pieces.as_slice()) {
-        Some(parts) => Ok(form_of(&parts)),
-        None => Ok(None),
-    }
-}
-
-pub(crate) fn form_of<'a>(parts: &Parts<'a>) -> Option<Form<'a>>
-    ensures { MatchOption result ((f : _) → HasParts (parts_view parts.now) f → ⊥) (λ f. HasParts (parts_view parts.now) (form_view f)) }
-{
-    if !has_names(parts) || !repeats(parts) {
+    if theory.version != 1 {
         return None;
     }
-    let constraint = read_relation(parts.premise.constraint)?;
-    let limit = read_limit(parts.premise.limit)?;
-    let check = read_relation(parts.conclusion.check)?;
+    let (program, spec) = two_of(theory.decls.as_slice())?;
+    let program = program_of(program)?;
+    let (variable, body) = specification_of(spec)?;
+    let compared = comparisons_of(body, program, variable)?;
+    if program == variable {
+        return None;
+    }
     Some(Form {
-        name: parts.name,
-        program: parts.program,
-        variable: parts.premise.variable,
+        name: theory.name.bytes(),
+        program,
+        variable,
+        constraint: compared.constraint,
+        limit: compared.limit,
+        check: compared.check,
+    })
+}
+
+fn two_of<T>(items: &[T]) -> Option<(&T, &T)>
+    ensures { MatchOption result ((a b : _) → items.now ≡ a ∷ b ∷ [] → ⊥) (λ p. items.now ≡ p.0.now ∷ p.1.now ∷ []) }
+{
+    match items {
+        [first, second] => Some((first, second)),
+        _ => None,
+    }
+}
+
+/// The name of a program from nat to nat.
+fn program_of(declaration: &RawDecl) -> Option<&[u8]>
+    ensures { MatchOption result ((p : _) → declaration.now ≡ declarations.Program p (types.Nat ∷ types.Nat ∷ []) → ⊥) (λ p. declaration.now ≡ declarations.Program p.now (types.Nat ∷ types.Nat ∷ [])) }
+{
+    match declaration {
+        RawDecl::Program { name, tys } if is_nat_to_nat(tys.as_slice()) => Some(name.bytes()),
+        _ => None,
+    }
+}
+
+/// The variable and the term of a specification with one variable.
+fn specification_of(declaration: &RawDecl) -> Option<(&[u8], &RawTerm)>
+    ensures { MatchOption result ((v : _) (t : _) → declaration.now ≡ declarations.Spec (v ∷ []) t → ⊥) (λ p. declaration.now ≡ declarations.Spec (p.0.now ∷ []) p.1.now) }
+{
+    match declaration {
+        RawDecl::Spec { vars, body } => match vars.as_slice() {
+            [variable] => Some((variable.bytes(), body)),
+            _ => None,
+        },
+        _ => None,
+    }
+}
+
+/// The comparisons of a term `VARIABLE CONSTRAINT LIMIT --> VARIABLE CHECK PROGRAM VARIABLE`.
+#[tactic(auto, using(crate::proofs::Forms::sides))]
+fn comparisons_of(term: &RawTerm, program: &[u8], variable: &[u8]) -> Option<Comparisons>
+    ensures { MatchOption result ((c : _) (l : _) (k : _) → term.now ≡ implied program.now variable.now c l k → ⊥) (λ s. term.now ≡ implied program.now variable.now s.constraint s.limit s.check) }
+{
+    let (premise, conclusion) = operands(ARROW, term)?;
+    let (constraint, limit) = constraint_of(premise, variable)?;
+    let check = check_of(conclusion, program, variable)?;
+    Some(Comparisons {
         constraint,
         limit,
         check,
     })
 }
 
-fn has_names(parts: &Parts) -> bool
-    ensures { IsTrue result ↔ HasNames (parts_view parts.now) }
+#[tactic(auto, using(crate::proofs::Forms::sides))]
+fn constraint_of(term: &RawTerm, variable: &[u8]) -> Option<(Relation, u64)>
+    ensures { MatchOption result ((r : _) (n : _) → term.now ≡ compared r (named variable.now) (terms.Num n) → ⊥) (λ p. term.now ≡ compared p.0 (named variable.now) (terms.Num p.1)) }
 {
-    are_names(parts.name, parts.program, parts.premise.variable)
-        && parts.program != parts.premise.variable
+    let compared = comparison(term)?;
+    let limit = limit_in(&compared, variable)?;
+    Some((compared.relation, limit))
 }
 
-fn are_names(name: &[u8], program: &[u8], variable: &[u8]) -> bool
-    ensures { result ≡ are_names name.now program.now variable.now }
+fn limit_in(compared: &Compared, variable: &[u8]) -> Option<u64>
+    ensures { MatchOption result ((n : _) → compared.now.left.now ≡ named variable.now → compared.now.right.now ≡ terms.Num n → ⊥) (λ n. (compared.now.left.now ≡ named variable.now) × (compared.now.right.now ≡ terms.Num n)) }
 {
-    is_name(name) && is_name(program) && is_name(variable)
-}
-
-fn repeats(parts: &Parts) -> bool
-    ensures { IsTrue result ↔ Repeats (parts_view parts.now) }
-{
-    parts.premise.left == parts.premise.variable
-        && parts.conclusion.left == parts.premise.variable
-        && parts.conclusion.called == parts.program
-        && is_terminated(parts.conclusion.argument, parts.premise.variable)
-}
-
-/// `text` is `word` and then a semicolon.
-fn is_terminated(text: &[u8], word: &[u8]) -> bool
-    ensures { IsTrue result ↔ (text.now ≡ word.now ++ codes ";") }
-{
-    match text.strip_suffix(b";".as_slice()) {
-        Some(front) => front == word,
-        None => false,
+    match compared.right {
+        RawTerm::Num(limit) if is_named(compared.left, variable) => Some(*limit),
+        _ => None,
     }
 }
 
-fn read_relation(text: &[u8]) -> Option<Relation>
-    ensures { MatchOption result ((r : _) → text.now ≢ sign r) (λ r. text.now ≡ sign r) }
+#[tactic(auto, using(crate::proofs::Forms::sides))]
+fn check_of(term: &RawTerm, program: &[u8], variable: &[u8]) -> Option<Relation>
+    ensures { MatchOption result ((r : _) → term.now ≡ compared r (named variable.now) (called program.now variable.now) → ⊥) (λ r. term.now ≡ compared r (named variable.now) (called program.now variable.now)) }
 {
-    if text == b"<".as_slice() {
-        Some(Relation::Less)
-    } else if text == b"<=".as_slice() {
-        Some(Relation::LessEqual)
+    let compared = comparison(term)?;
+    if is_check(&compared, program, variable) {
+        Some(compared.relation)
     } else {
         None
     }
 }
 
-/// A number below 10^18, with no zero in front: it is read and written again.
-pub(crate) fn read_limit(text: &[u8]) -> Option<u64>
-    ensures { MatchOption result ((n : _) → n < 10 ^ 18 → text.now ≢ decimal n) (λ n. (n < 10 ^ 18) × (text.now ≡ decimal n)) }
+fn is_check(compared: &Compared, program: &[u8], variable: &[u8]) -> bool
+    ensures { IsTrue result ↔ ((compared.now.left.now ≡ named variable.now) × (compared.now.right.now ≡ called program.now variable.now)) }
 {
-    let number = read_number(text)?;
-    if number < 1_000_000_000_000_000_000 && Buffer::new().format(number).as_bytes() == text {
-        Some(number)
-    } else {
-        None
+    is_named(compared.left, variable) && is_call(compared.right, program, variable)
+}
+
+/// The operands of an operator with two.
+fn operands(kind: u32, term: &RawTerm) -> Option<(&RawTerm, &RawTerm)>
+    ensures { MatchOption result ((a b : _) → term.now ≡ terms.Op kind (a ∷ b ∷ []) → ⊥) (λ p. term.now ≡ terms.Op kind (p.0.now ∷ p.1.now ∷ [])) }
+{
+    match term {
+        RawTerm::Op(operator, operands) if *operator == kind => match operands.as_slice() {
+            [left, right] => Some((left, right)),
+            _ => None,
+        },
+        _ => None,
     }
 }
 
-fn read_number(text: &[u8]) -> Option<u64>
-    ensures { (n : _) → n < 2 ^ 64 → text.now ≡ decimal n → result ≡ Some n }
+/// A comparison's relation and sides.
+fn comparison(term: &RawTerm) -> Option<Compared<'_>>
+    ensures { MatchOption result ((r : _) (a b : _) → term.now ≡ compared r a b → ⊥) (λ c. term.now ≡ compared c.relation c.left.now c.right.now) }
 {
-    match std::str::from_utf8(text) {
-        Ok(text) => text.parse().ok(),
-        Err(_) => None,
+    if let Some((left, right)) = operands(LESS, term) {
+        return Some(Compared {
+            relation: Relation::Less,
+            left,
+            right,
+        });
+    }
+    let (left, right) = operands(LESS_EQUAL, term)?;
+    Some(Compared {
+        relation: Relation::LessEqual,
+        left,
+        right,
+    })
+}
+
+/// The term is this name without arguments.
+fn is_named(term: &RawTerm, name: &[u8]) -> bool
+    ensures { IsTrue result ↔ (term.now ≡ named name.now) }
+{
+    match term {
+        RawTerm::Use(used, arguments) => arguments.as_slice().is_empty() && used.bytes() == name,
+        _ => false,
     }
 }
 
-/// The parts of the one form whose pieces these are, if there is one.
-#[tactic(auto, unfolding(crate::specs::Form::whole_of))]
-fn read_whole<'a>(pieces: &[&'a [u8]]) -> Option<Parts<'a>>
-    ensures { option_map parts_view result ≡ whole_of (texts pieces.now) }
+/// The term is the one name applied to the other.
+fn is_call(term: &RawTerm, program: &[u8], variable: &[u8]) -> bool
+    ensures { IsTrue result ↔ (term.now ≡ called program.now variable.now) }
 {
-    let (parts, rest) = read_parts(pieces)?;
-    at_end(rest)?;
-    Some(parts)
+    match term {
+        RawTerm::Use(used, arguments) => match arguments.as_slice() {
+            [argument] => used.bytes() == program && is_named(argument, variable),
+            _ => false,
+        },
+        _ => false,
+    }
 }
 
-/// The parts of the one form that these pieces begin with, and what follows it.
-#[tactic(auto, unfolding(crate::specs::Form::parts_of))]
-pub(crate) fn read_parts<'p, 'a>(pieces: &'p [&'a [u8]]) -> Option<(Parts<'a>, &'p [&'a [u8]])>
-    ensures { option_map (λ p. (parts_view p.0, texts p.1.now)) result ≡ parts_of (texts pieces.now) }
+/// The types of a function from nat to nat.
+fn is_nat_to_nat(tys: &[RawTy]) -> bool
+    ensures { IsTrue result ↔ (tys.now ≡ types.Nat ∷ types.Nat ∷ []) }
 {
-    let (name, rest) = read_header(pieces)?;
-    let (program, rest) = read_program(rest)?;
-    let (premise, rest) = read_premise(rest)?;
-    let (conclusion, rest) = read_conclusion(rest)?;
-    let parts = Parts {
-        name,
-        program,
-        premise,
-        conclusion,
-    };
-    Some((parts, rest))
-}
-
-/// `theory NAME version 1 begin`, and what follows it.
-#[tactic(auto, unfolding(crate::specs::Form::header_of))]
-fn read_header<'p, 'a>(pieces: &'p [&'a [u8]]) -> Option<(&'a [u8], &'p [&'a [u8]])>
-    ensures { option_map (λ p. (p.0.now, texts p.1.now)) result ≡ header_of (texts pieces.now) }
-{
-    let rest = after(pieces, b"theory")?;
-    let (name, rest) = first_piece(rest)?;
-    let rest = after(rest, b"version")?;
-    let rest = after(rest, b"1")?;
-    let rest = after(rest, b"begin")?;
-    Some((name, rest))
-}
-
-/// `program PROGRAM :: nat => nat;`, and what follows it.
-#[tactic(auto, unfolding(crate::specs::Form::program_of))]
-fn read_program<'p, 'a>(pieces: &'p [&'a [u8]]) -> Option<(&'a [u8], &'p [&'a [u8]])>
-    ensures { option_map (λ p. (p.0.now, texts p.1.now)) result ≡ program_of (texts pieces.now) }
-{
-    let rest = after(pieces, b"program")?;
-    let (name, rest) = first_piece(rest)?;
-    let rest = after(rest, b"::")?;
-    let rest = after(rest, b"nat")?;
-    let rest = after(rest, b"=>")?;
-    let rest = after(rest, b"nat;")?;
-    Some((name, rest))
-}
-
-/// `spec VARIABLE . LEFT CONSTRAINT LIMIT -->`, and what follows it.
-#[tactic(auto, unfolding(crate::specs::Form::premise_of))]
-fn read_premise<'p, 'a>(pieces: &'p [&'a [u8]]) -> Option<(Premise<'a>, &'p [&'a [u8]])>
-    ensures { option_map (λ p. (premise_view p.0, texts p.1.now)) result ≡ premise_of (texts pieces.now) }
-{
-    let rest = after(pieces, b"spec")?;
-    let (variable, rest) = first_piece(rest)?;
-    let rest = after(rest, b".")?;
-    let (left, rest) = first_piece(rest)?;
-    let (constraint, rest) = first_piece(rest)?;
-    let (limit, rest) = first_piece(rest)?;
-    let rest = after(rest, b"-->")?;
-    let premise = Premise {
-        variable,
-        left,
-        constraint,
-        limit,
-    };
-    Some((premise, rest))
-}
-
-/// `LEFT CHECK CALLED ARGUMENT end`, and what follows it.
-#[tactic(auto, unfolding(crate::specs::Form::conclusion_of))]
-fn read_conclusion<'p, 'a>(pieces: &'p [&'a [u8]]) -> Option<(Conclusion<'a>, &'p [&'a [u8]])>
-    ensures { option_map (λ p. (conclusion_view p.0, texts p.1.now)) result ≡ conclusion_of (texts pieces.now) }
-{
-    let (left, rest) = first_piece(pieces)?;
-    let (check, rest) = first_piece(rest)?;
-    let (called, rest) = first_piece(rest)?;
-    let (argument, rest) = first_piece(rest)?;
-    let rest = after(rest, b"end")?;
-    let conclusion = Conclusion {
-        left,
-        check,
-        called,
-        argument,
-    };
-    Some((conclusion, rest))
+    match tys {
+        [RawTy::Nat, RawTy::Nat] => true,
+        _ => false,
+    }
 }

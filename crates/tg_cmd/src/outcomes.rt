@@ -1,136 +1,81 @@
-ghost use Rattle.std.specs.Prelude.{◌≡◌, ◌≢◌, ◌<◌, ◌^◌, IfOk, MatchOption, option_map};
-ghost use Rattle.tg_cmd.specs.Outcomes.{bounds_of, draws_of, nothing_of, answer_of, record_of, judged_of, answer_text, HasJudged, ReadsJudged};
-ghost use Rattle.tg_cmd.specs.Parts.{parts_view, form_view, piece_view};
-ghost use Rattle.tg_cmd.specs.Pieces.{texts};
+//! The outcomes that are judged so far, in the outcomes as they are read.
+ghost use Rattle.std.specs.Prelude.{◌≡◌, [], ◌∷◌, IsTrue, ◌↔◌, MatchOption};
+ghost use Rattle.tg_cmd.specs.Outcomes.{raw_item, raw_items, AreOutcomes};
 ghost use Rattle.tg_cmd.specs.Verdicts.{IsOutcome};
+ghost use Rattle.tg_cmd.specs.Views.{form_view};
 
-use crate::form::{Form, Parts, form_of, read_limit, read_parts};
-use crate::pieces::{after, at_end, first_piece, pieces};
+use crate::form::Form;
 use crate::verdict::has_datum;
-use std::alloc::{AllocError, Global};
+use tg_grammar::{RawItem, RawOutcomes, RawTerm};
+use tg_types::Settings;
 
-/// A theory of the form, and the answer that is recorded of its one test, if one is.
-#[derive(Clone, Copy, Debug)]
-pub(crate) struct Judged<'a> {
-    pub(crate) form: Form<'a>,
-    /// below 10^18
-    pub(crate) answer: Option<u64>,
-}
-
-/// The form and the outcome that a text reads as, if it is such a text.
-pub(crate) fn read_judged(alloc: Global, bytes: &[u8]) -> Result<Option<Judged<'_>>, AllocError>
-    ensures { IfOk result (λ o. MatchOption o ((f : _) (outcome : _) → ReadsJudged bytes.now f outcome → ⊥) (λ j. ReadsJudged bytes.now (form_view j.form) j.answer)) }
+/// The answer that is recorded of the form's test, where one is. `None` where the outcomes are others.
+pub(crate) fn outcome_of(
+    settings: &Settings,
+    form: &Form,
+    outcomes: &RawOutcomes,
+) -> Option<Option<u64>>
+    ensures { MatchOption result ((o : _) → AreOutcomes settings.now (form_view form.now) outcomes.now o → ⊥) (AreOutcomes settings.now (form_view form.now) outcomes.now) }
 {
-    let pieces = pieces(alloc, bytes)?;
-    match read_judged_parts(pieces.as_slice()) {
-        Some((parts, answer)) => Ok(judged_of(&parts, answer)),
-        None => Ok(None),
+    let answer = answer_of(outcomes.items.as_slice())?;
+    if are_used(settings, outcomes) && is_outcome(form, answer) {
+        Some(answer)
+    } else {
+        None
     }
 }
 
-fn judged_of<'a>(parts: &Parts<'a>, answer: Option<&[u8]>) -> Option<Judged<'a>>
-    ensures { MatchOption result ((f : _) (outcome : _) → HasJudged (parts_view parts.now) (piece_view answer.entry) f outcome → ⊥) (λ j. HasJudged (parts_view parts.now) (piece_view answer.entry) (form_view j.form) j.answer) }
-{
-    let form = form_of(parts)?;
-    let answer = outcome_of(&form, answer)?;
-    Some(Judged { form, answer })
-}
-
-fn outcome_of(form: &Form, answer: Option<&[u8]>) -> Option<Option<u64>>
-    ensures { MatchOption result ((outcome : _) → IsOutcome (form_view form.now) outcome → piece_view answer.entry ≢ option_map answer_text outcome) (λ outcome. IsOutcome (form_view form.now) outcome × (piece_view answer.entry ≡ option_map answer_text outcome)) }
+/// Only a class with a datum has a test.
+fn is_outcome(form: &Form, answer: Option<u64>) -> bool
+    ensures { IsTrue result ↔ IsOutcome (form_view form.now) answer }
 {
     match answer {
-        Some(text) => recorded(form, text),
-        None => Some(None),
+        Some(_) => has_datum(form),
+        None => true,
     }
 }
 
-/// Only a class with a datum has a test, and so an answer.
-fn recorded(form: &Form, text: &[u8]) -> Option<Option<u64>>
-    ensures { MatchOption result ((outcome : _) → IsOutcome (form_view form.now) outcome → Some text.now ≢ option_map answer_text outcome) (λ outcome. IsOutcome (form_view form.now) outcome × (Some text.now ≡ option_map answer_text outcome)) }
+/// The outcomes state the settings in use.
+fn are_used(settings: &Settings, outcomes: &RawOutcomes) -> bool
+    ensures { let o = outcomes.now in let s = settings.now in IsTrue result ↔ (o.settings ≡ s.depth ∷ s.bound ∷ s.seed ∷ s.tries ∷ s.width ∷ []) }
 {
-    if !has_datum(form) {
+    outcomes.settings
+        == [
+            u64::from(settings.depth),
+            u64::from(settings.bound),
+            settings.seed,
+            u64::from(settings.tries),
+            u64::from(settings.width),
+        ]
+}
+
+/// The answer of the one record, where there is one.
+fn answer_of(items: &[RawItem]) -> Option<Option<u64>>
+    ensures { MatchOption result ((o : _) → items.now ≡ raw_items o → ⊥) (λ o. items.now ≡ raw_items o) }
+{
+    match items {
+        [] => Some(None),
+        [item] => one_answer(item),
+        _ => None,
+    }
+}
+
+fn one_answer(item: &RawItem) -> Option<Option<u64>>
+    ensures { MatchOption result ((n : _) → item.now ≡ raw_item n → ⊥) (λ o. item.now ∷ [] ≡ raw_items o) }
+{
+    let number = number_in(item)?;
+    Some(Some(number))
+}
+
+/// The number that is recorded of test 1.
+fn number_in(item: &RawItem) -> Option<u64>
+    ensures { MatchOption result ((n : _) → item.now ≡ raw_item n → ⊥) (λ n. item.now ≡ raw_item n) }
+{
+    if item.test != 1 {
         return None;
     }
-    let answer = read_answer(text)?;
-    Some(Some(answer))
-}
-
-/// A number below 10^18, with no zero in front, and then a semicolon.
-fn read_answer(text: &[u8]) -> Option<u64>
-    ensures { MatchOption result ((n : _) → n < 10 ^ 18 → text.now ≢ answer_text n) (λ n. (n < 10 ^ 18) × (text.now ≡ answer_text n)) }
-{
-    match text.strip_suffix(b";".as_slice()) {
-        Some(digits) => read_limit(digits),
-        None => None,
+    match &item.answer {
+        Some(RawTerm::Num(number)) => Some(*number),
+        _ => None,
     }
-}
-
-/// The parts of the theory and the recorded answer, as they stand.
-#[tactic(auto, unfolding(crate::specs::Outcomes::judged_of))]
-fn read_judged_parts<'a>(pieces: &[&'a [u8]]) -> Option<(Parts<'a>, Option<&'a [u8]>)>
-    ensures { option_map (λ p. (parts_view p.0, piece_view p.1)) result ≡ judged_of (texts pieces.now) }
-{
-    let (parts, rest) = read_parts(pieces)?;
-    let rest = read_bounds(rest)?;
-    let rest = read_draws(rest)?;
-    let answer = read_record(rest)?;
-    Some((parts, answer))
-}
-
-/// `outcomes depth 3 bound 8 seed 1`, and what follows it.
-#[tactic(auto, unfolding(crate::specs::Outcomes::bounds_of))]
-fn read_bounds<'p, 'a>(pieces: &'p [&'a [u8]]) -> Option<&'p [&'a [u8]]>
-    ensures { option_map (λ rest. texts rest.now) result ≡ bounds_of (texts pieces.now) }
-{
-    let rest = after(pieces, b"outcomes")?;
-    let rest = after(rest, b"depth")?;
-    let rest = after(rest, b"3")?;
-    let rest = after(rest, b"bound")?;
-    let rest = after(rest, b"8")?;
-    let rest = after(rest, b"seed")?;
-    after(rest, b"1")
-}
-
-/// `tries 1000 width 16 begin`, and what follows it.
-#[tactic(auto, unfolding(crate::specs::Outcomes::draws_of))]
-fn read_draws<'p, 'a>(pieces: &'p [&'a [u8]]) -> Option<&'p [&'a [u8]]>
-    ensures { option_map (λ rest. texts rest.now) result ≡ draws_of (texts pieces.now) }
-{
-    let rest = after(pieces, b"tries")?;
-    let rest = after(rest, b"1000")?;
-    let rest = after(rest, b"width")?;
-    let rest = after(rest, b"16")?;
-    after(rest, b"begin")
-}
-
-/// At most one record, then `end`, and nothing after it.
-#[tactic(auto, unfolding(crate::specs::Outcomes::record_of))]
-fn read_record<'a>(pieces: &[&'a [u8]]) -> Option<Option<&'a [u8]>>
-    ensures { option_map piece_view result ≡ record_of (texts pieces.now) }
-{
-    match read_nothing(pieces) {
-        Some(()) => Some(None),
-        None => one_record(pieces),
-    }
-}
-
-#[tactic(auto, unfolding(crate::specs::Outcomes::answer_of))]
-fn one_record<'a>(pieces: &[&'a [u8]]) -> Option<Option<&'a [u8]>>
-    ensures { option_map piece_view result ≡ option_map Some (answer_of (texts pieces.now)) }
-{
-    let rest = after(pieces, b"answer")?;
-    let rest = after(rest, b"1")?;
-    let (answer, rest) = first_piece(rest)?;
-    read_nothing(rest)?;
-    Some(Some(answer))
-}
-
-/// `end`, and nothing after it.
-#[tactic(auto, unfolding(crate::specs::Outcomes::nothing_of))]
-fn read_nothing(pieces: &[&[u8]]) -> Option<()>
-    ensures { result ≡ nothing_of (texts pieces.now) }
-{
-    let rest = after(pieces, b"end")?;
-    at_end(rest)
 }

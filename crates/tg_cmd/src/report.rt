@@ -1,6 +1,6 @@
 ghost use Rattle.std.specs.Prelude.{◌≡◌, ◌++◌, IfOk, OnOk};
-ghost use Rattle.tg_cmd.specs.Form.{sign};
-ghost use Rattle.tg_cmd.specs.Parts.{form_view};
+ghost use Rattle.tg_cmd.specs.Report.{sign};
+ghost use Rattle.tg_cmd.specs.Views.{form_view};
 ghost use Rattle.tg_cmd.specs.Report.{report, head_text, class_text, datum_text, verdict_text, test_text, open_text, hypotheses_text, conclusion_text, counts_text, counts, tally};
 ghost use Rattle.tg_cmd.specs.Verdicts.{verdict_word};
 
@@ -16,13 +16,14 @@ use tg_types::{Settings, Verdict};
 #[tactic(auto, unfolding(crate::specs::Report::report))]
 pub(crate) fn report(
     alloc: Global,
+    settings: &Settings,
     form: &Form,
     verdict: Option<Verdict>,
 ) -> Result<Vec<u8>, AllocError>
-    ensures { IfOk result (λ text. text.items ≡ report (form_view form.now) verdict) }
+    ensures { IfOk result (λ text. text.items ≡ report settings.now (form_view form.now) verdict) }
 {
     let mut text = Vec::new(alloc);
-    put_head(&mut text, form)?;
+    put_head(&mut text, settings, form)?;
     put_class(&mut text, form)?;
     put_datum(&mut text, form)?;
     put_verdict(&mut text, verdict)?;
@@ -41,10 +42,9 @@ fn sign(relation: Relation) -> &'static [u8]
     }
 }
 
-fn put_head(out: &mut Vec<u8>, form: &Form) -> Result<(), AllocError>
-    ensures { OnOk result (out.new.items ≡ out.old.items ++ head_text (form_view form.now)) }
+fn put_head(out: &mut Vec<u8>, settings: &Settings, form: &Form) -> Result<(), AllocError>
+    ensures { OnOk result (out.new.items ≡ out.old.items ++ head_text settings.now (form_view form.now)) }
 {
-    let settings = Settings::DEFAULT;
     put(
         out,
         &[

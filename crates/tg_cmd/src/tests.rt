@@ -1,4 +1,4 @@
-use crate::{Answer, Refusal, run};
+use crate::{Answer, LimitName, Refusal, run};
 use std::alloc::{AllocError, Global};
 use std::test::Fail;
 use tg_io::{MemSink, MemSource};
@@ -130,15 +130,10 @@ classes 1 tests 0 open 1
 }
 
 #[test]
-fn other_input_is_refused_with_one_line(rt: HostRuntime) -> Result<(), Fail> {
-    let inputs: [&[u8]; 7] = [
-        b"",
-        &INC[..71],
-        b"theory Inc version 1 begin program put :: nat => nat; spec x . x < 3 --> x < put x; end\0",
-        b"theory theory version 1 begin program put :: nat => nat; spec x . x < 3 --> x < put x; end",
+fn a_text_of_another_form_is_refused_early(rt: HostRuntime) -> Result<(), Fail> {
+    let inputs: [&[u8]; 2] = [
+        b"theory Inc version 1 begin end",
         b"theory Inc version 1 begin program x :: nat => nat; spec x . x < 3 --> x < x x; end",
-        b"theory Inc version 1 begin program put :: nat => nat; spec x . x < 1000000000000000000 --> x < put x; end",
-        b"theory Inc version 1 begin program put :: nat => nat; spec x . x < 03 --> x < put x; end",
     ];
     for input in inputs {
         let (answer, sink) = run_whole(rt.alloc(), b"generate", input)?;
@@ -150,17 +145,30 @@ fn other_input_is_refused_with_one_line(rt: HostRuntime) -> Result<(), Fail> {
 }
 
 #[test]
-fn an_input_of_1000_bytes_is_read_and_a_longer_one_refused(rt: HostRuntime) -> Result<(), Fail> {
-    let mut input = Vec::from_slice(rt.alloc(), INC)?;
-    for _ in INC.len()..1000 {
-        input.push(b' ')?;
-    }
-    let (answer, _) = run_whole(rt.alloc(), b"generate", input.as_slice())?;
-    assert_eq!(rt; answer, Answer::Done);
-    input.push(b'\n')?;
-    let (answer, sink) = run_whole(rt.alloc(), b"generate", input.as_slice())?;
-    assert_eq!(rt; answer, Answer::Refused(Refusal::Early));
-    assert_eq!(rt; sink.bytes(), b"refused early\n".as_slice());
+fn what_is_no_text_is_refused_at_its_place(rt: HostRuntime) -> Result<(), Fail> {
+    let (answer, sink) = run_whole(rt.alloc(), b"generate", &INC[..71])?;
+    assert_eq!(rt; answer, Answer::Refused(Refusal::Form { decl: 2 }));
+    assert_eq!(rt; answer.status(), 6);
+    assert_eq!(rt; sink.bytes(), b"refused form at declaration 2\n".as_slice());
+    let (answer, _) = run_whole(rt.alloc(), b"generate", b"")?;
+    assert_eq!(rt; answer, Answer::Refused(Refusal::Form { decl: 0 }));
+    let (answer, _) = run_whole(rt.alloc(), b"generate", b"theory A (* cut")?;
+    assert_eq!(rt; answer, Answer::Refused(Refusal::Form { decl: 0 }));
+    Ok(())
+}
+
+#[test]
+fn limits_are_told_by_name_and_number(rt: HostRuntime) -> Result<(), Fail> {
+    let (answer, sink) = run_whole(rt.alloc(), b"generate", b"18446744073709551616")?;
+    assert_eq!(rt; answer, Answer::Limit(LimitName::Number));
+    assert_eq!(rt; answer.status(), 7);
+    assert_eq!(rt;
+        sink.bytes(),
+        b"limit number 18446744073709551615\n".as_slice()
+    );
+    let (answer, sink) = run_whole(rt.alloc(), b"generate", &[b'('; 401])?;
+    assert_eq!(rt; answer, Answer::Limit(LimitName::Nesting));
+    assert_eq!(rt; sink.bytes(), b"limit nesting 400\n".as_slice());
     Ok(())
 }
 
@@ -234,18 +242,18 @@ fn an_answer_of_a_class_without_a_datum_is_refused(rt: HostRuntime) -> Result<()
 
 #[test]
 fn other_outcomes_are_refused(rt: HostRuntime) -> Result<(), Fail> {
-    let outcomes: [&[u8]; 6] = [
-        b"",
-        b" outcomes depth 3 bound 8 seed 1 tries 1000 width 16 begin",
+    let outcomes: [&[u8]; 4] = [
         b" outcomes depth 2 bound 8 seed 1 tries 1000 width 16 begin end",
         b" outcomes depth 3 bound 8 seed 1 tries 1000 width 16 begin answer 2 1; end",
-        b" outcomes depth 3 bound 8 seed 1 tries 1000 width 16 begin answer 1 01; end",
+        b" outcomes depth 3 bound 8 seed 1 tries 1000 width 16 begin raised 1; end",
         b" outcomes depth 3 bound 8 seed 1 tries 1000 width 16 begin answer 1 1; answer 1 1; end",
     ];
     for outcome in outcomes {
         let (answer, _) = judged(rt.alloc(), INC, outcome)?;
         assert_eq!(rt; answer, Answer::Refused(Refusal::Early));
     }
+    let (answer, _) = judged(rt.alloc(), INC, b"")?;
+    assert_eq!(rt; answer, Answer::Refused(Refusal::Form { decl: 2 }));
     Ok(())
 }
 

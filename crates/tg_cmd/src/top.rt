@@ -1,25 +1,32 @@
-ghost use Rattle.std.specs.Prelude.{◌≡◌, ◌↔◌, IsTrue};
+ghost use Rattle.std.specs.Prelude.{◌≡◌, ◌↔◌, IfSome};
 ghost use Rattle.tg_io.specs.Faults.{Rose};
 ghost use Rattle.tg_io.specs.Whole.{written_of};
 ghost use Rattle.tg_cmd.specs.declared.command.Command.{Command};
-ghost use Rattle.tg_cmd.specs.Output.{words_of, IsCommand, HasBytes, IsSilent, IsWriteFault};
+ghost use Rattle.tg_types.specs.declared.options.Settings.{Settings};
+ghost use Rattle.tg_cmd.specs.Options.{ReadsWords, IsCommand};
+ghost use Rattle.tg_cmd.specs.Output.{HasBytes, Completes, IsSilent, IsWriteFault};
 
 use crate::answer::{Answer, Ending};
-use crate::command::command_of;
+use crate::options::request_of;
 use crate::output::make_output;
 use std::alloc::Global;
 use tg_io::{Sink, Source, WriteErr, write_all};
 use tg_types::Name;
 
 /// One run of the program: reads what `source` gives, a theory for the word `generate`, and a theory and
-/// recorded outcomes for `judge`, and writes its report to `sink`.
+/// recorded outcomes for `judge`, and writes its report to `sink`. The words after the command are its
+/// options, each at most once: `--depth` 1 to 8, `--bound` to 20,000, `--seed` below 2^64, `--tries` to
+/// 100,000 and `--width` 1 to 32, with a number behind it.
 ///
-/// `Usage` comes exactly where the words are neither of these words alone, and then nothing is read or
-/// written. `ReadFault` comes only where the source's count of faults rose in this call, `WriteFault`
-/// only where the sink's did. `Refused` comes exactly where the input is longer than 1,000 bytes or
-/// doesn't have the form, and one line is written. Else the report is written, and the answer is
-/// `TestsFailed` exactly where `judge` gives the verdict `failed`, else `Done`. The whole input is read
-/// before anything is written.
+/// `Usage` comes exactly where the words aren't such words, and then nothing is read or written.
+/// `ReadFault` comes only where the source's count of faults rose in this call, `WriteFault` only where the
+/// sink's did. `Limit` comes exactly where the input is longer than 16,777,216 bytes, has a number of 2^64
+/// or more, or nests too deep; `Refused(Form)` exactly where it is no text of the grammar, and
+/// `Refused(Early)` where it is one of another form; the first in this order, and one line is written.
+/// Else the report is written, and the answer is `TestsFailed` exactly where `judge` gives the verdict
+/// `failed`, else `Done`. The whole input is read before anything is written.
+///
+/// An input of the form is answered with its report, but for faults and want of memory.
 ///
 /// The theorem that a report prints is derivable and true on every table. Where `judge` has answered
 /// `Done` or `TestsFailed`, on every finite table that has the outcome that is judged passed the printed
@@ -37,13 +44,14 @@ pub fn run<S: Source, K: Sink>(
     ensures read_fault { result ≡ Answer.ReadFault → Rose (S.faults source.old) (S.faults source.new) }
     ensures write_fault { IsWriteFault result → Rose (K.faults sink.old) (K.faults sink.new) }
     ensures silent { IsSilent result → sink.new ≡ sink.old }
-    ensures bytes { (c : Command) → words.now ≡ words_of c → HasBytes c result (S.left source.old) (S.left source.new) (K.written sink.old) (K.written sink.new) }
+    ensures complete { (c : Command) (s : Settings) → ReadsWords words.now c s → IfSome (S.left source.old) (λ input. Completes c s input result) }
+    ensures bytes { (c : Command) (s : Settings) → ReadsWords words.now c s → HasBytes c s result (S.left source.old) (S.left source.new) (K.written sink.old) (K.written sink.new) }
 {
-    let command = match command_of(words) {
-        Some(command) => command,
+    let request = match request_of(words) {
+        Some(request) => request,
         None => return Answer::Usage,
     };
-    let output = match make_output(alloc, command, source) {
+    let output = match make_output(alloc, &request, source) {
         Ok(output) => output,
         Err(answer) => return answer,
     };
@@ -52,6 +60,7 @@ pub fn run<S: Source, K: Sink>(
             Ending::Done => Answer::Done,
             Ending::TestsFailed => Answer::TestsFailed,
             Ending::Refused(refusal) => Answer::Refused(refusal),
+            Ending::Limit(name) => Answer::Limit(name),
         },
         Err(error) => write_fault(error),
     }

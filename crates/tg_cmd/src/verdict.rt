@@ -1,6 +1,6 @@
 ghost use Rattle.std.specs.Prelude.{◌≡◌};
 ghost use Rattle.tg_cmd.specs.Answers.{answer_after};
-ghost use Rattle.tg_cmd.specs.Parts.{form_view};
+ghost use Rattle.tg_cmd.specs.Views.{form_view};
 ghost use Rattle.tg_cmd.specs.Theorem.{meets, has_datum};
 ghost use Rattle.tg_cmd.specs.Verdicts.{verdict, verdict_on, is_tested, is_passed, answer_on};
 

@@ -11,7 +11,7 @@ use Rattle.tg_lex.specs.declared.part.Part.TheVariants as parts
 use Rattle.tg_lex.specs.declared.part.Fault.{Fault}
 use Rattle.tg_lex.specs.declared.part.Fault.TheVariants as faults
 use Rattle.tg_lex.specs.Bytes.{is_blank, is_digit}
-use Rattle.tg_lex.specs.Grammar.{Spells, value, opens, after_open, after_comment, begins_blank, IsLongest, IsToken, IsSeparator, IsTooLarge, Stands, Fails, size_of, total, BeginsWith, tokens_from, ReadsTo, Reads, FailsAt}
+use Rattle.tg_lex.specs.Grammar.{Spells, value, opens, after_open, after_comment, begins_blank, IsLongest, IsToken, IsSeparator, IsTooLarge, Stands, Fails, size_of, total, BeginsWith, tokens_from, ReadsTo, Reads, FailsAt, HasWrongByte, HasOpenComment, HasLargeNumber}
 use Rattle.tg_lex.proofs.Comments.{drop-add}
 use Rattle.tg_lex.proofs.Texts.{FirstOf, first_of, nothing_spelled, not_blank, open_first, one_kind, clash}
 
@@ -159,3 +159,13 @@ pub one_first_fault : (bytes : List ℕ) (ts us : List Token) (f g : Fault) (m n
 one_first_fault bytes ts us f g m n a b =
     let same = one_end bytes ts us m n a.0 b.0 (at_fault bytes f m a.1) (at_fault bytes g n b.1) in
     (one_fault (drop n bytes) f g (subst (λ k. Fails (drop k bytes) f) same.1 a.1) b.1, same.1, same.0)
+
+-- so none of each kind
+pub no_wrong_byte : (bytes : List ℕ) (ts us : List Token) (at : ℕ) → Reads bytes ts → HasWrongByte bytes at us → ⊥
+no_wrong_byte bytes ts us at r f = no_fault bytes ts us faults.Byte at r f
+
+pub no_open_comment : (bytes : List ℕ) (ts us : List Token) (at : ℕ) → Reads bytes ts → HasOpenComment bytes at us → ⊥
+no_open_comment bytes ts us at r f = no_fault bytes ts us faults.Comment at r f
+
+pub no_large_number : (bytes : List ℕ) (ts us : List Token) (at : ℕ) → Reads bytes ts → HasLargeNumber bytes at us → ⊥
+no_large_number bytes ts us at r f = no_fault bytes ts us faults.Number at r f

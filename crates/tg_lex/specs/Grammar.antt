@@ -168,6 +168,16 @@ Reads bytes tokens = ReadsTo bytes tokens (length bytes)
 abbrev pub FailsAt : List ℕ → Fault → ℕ → List Token → Type 0
 FailsAt bytes fault at before = ReadsTo bytes before at × Fails (drop at bytes) fault
 
+-- the same by what the fault is: a byte that begins no token, a comment that isn't closed, a number that is too large
+abbrev pub HasWrongByte : List ℕ → ℕ → List Token → Type 0
+HasWrongByte bytes at before = FailsAt bytes faults.Byte at before
+
+abbrev pub HasOpenComment : List ℕ → ℕ → List Token → Type 0
+HasOpenComment bytes at before = FailsAt bytes faults.Comment at before
+
+abbrev pub HasLargeNumber : List ℕ → ℕ → List Token → Type 0
+HasLargeNumber bytes at before = FailsAt bytes faults.Number at before
+
 -- ---- what holds of each token
 
 pub record IsTokenOf (bytes : List ℕ) (t : Token) : Type 0 where

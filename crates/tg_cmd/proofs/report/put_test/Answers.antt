@@ -1,7 +1,7 @@
 use Rattle.std.proofs.Common.{◌≡◌, ◌++◌, OnOk, List, ℕ, ◌∙◌, ap, subst}
 use Rattle.std.specs.Prelude.{codes}
-use Rattle.tg_cmd.specs.Form.{sign}
-use Rattle.tg_cmd.specs.Parts.{form_view}
+use Rattle.tg_cmd.specs.Report.{sign}
+use Rattle.tg_cmd.specs.Views.{form_view}
 use Rattle.tg_cmd.proofs.Texts.{test_parts, test_opened}
 use Rattle.tg_cmd.proofs.report.put_test.Goals as goal
 

@@ -1,31 +1,120 @@
-use Rattle.std.proofs.Common.{◌≡◌, ℕ, List, [], ◌∷◌, IfSome, refl, sym, ◌∙◌, subst}
-use Rattle.std.specs.Prelude.{codes}
+use Rattle.std.proofs.Common.{◌≡◌, ℕ, List, Option, IfSome, sym, subst}
+use Rattle.std.specs.Io.KnownBytes.{Appends}
 use Rattle.tg_io.specs.Whole.{written_of}
+use Rattle.tg_types.specs.declared.options.Settings.{Settings}
 use Rattle.tg_cmd.specs.declared.answer.Answer.{Answer}
-use Rattle.tg_cmd.specs.declared.answer.Answer.TheVariants.{WriteFault}
+use Rattle.tg_cmd.specs.declared.answer.Answer.TheVariants.{Done, TestsFailed, Refused, Limit, WriteFault}
+use Rattle.tg_cmd.specs.declared.answer.Ending.{Ending}
+use Rattle.tg_cmd.specs.declared.answer.Ending.TheVariants as endings
 use Rattle.tg_cmd.specs.declared.command.Command.{Command}
-use Rattle.tg_cmd.specs.declared.command.Command.TheVariants.{Generate, Judge}
 use Rattle.tg_cmd.specs.Answers.{answer_after}
-use Rattle.tg_cmd.specs.Output.{words_of, IsOutput, HasBytes}
+use Rattle.tg_cmd.specs.Options.{ReadsWords, AskFor}
+use Rattle.tg_cmd.specs.Output.{IsOutput, IsRead, HasBytes, Completes}
+use Rattle.tg_cmd.proofs.Completeness.{all_complete}
 use Rattle.tg_cmd.proofs.top.run.Goals as goal
 
--- the words of two commands differ
-one_command : (c d : Command) → words_of c ≡ words_of d → c ≡ d
-one_command Generate Generate e = refl
-one_command Generate Judge e = let wrong : codes "generate" ∷ [] ≡ codes "judge" ∷ [] = e in cc
-one_command Judge Generate e = let wrong : codes "judge" ∷ [] ≡ codes "generate" ∷ [] = e in cc
-one_command Judge Judge e = refl
+-- the words ask for one thing, so what holds of it holds of all that they read as
+moved : (words : List (List ℕ)) (c d : Command) (s t : Settings) (answer : Answer) (before after old new : Option (List ℕ)) → AskFor words c s → ReadsWords words d t
+    → HasBytes c s answer before after old new → HasBytes d t answer before after old new
+moved words c d s t answer before after old new asked reads h =
+    let same = asked.only d t reads in
+    subst (λ (x : Command). HasBytes x t answer before after old new) same.0 (subst (λ (y : Settings). HasBytes c y answer before after old new) same.1 h)
 
-pub returns-clause-bytes : goal.returns-clause-bytes
-returns-clause-bytes g c = λ d words.
+written_whole : (c : Command) (s : Settings) (e : Ending) (made text : List ℕ) (before after old new : Option (List ℕ)) → text ≡ made
+    → IfSome before (λ input. IsOutput c s input (answer_after e) made) → IsRead before after → Appends old new text → HasBytes c s (answer_after e) before after old new
+written_whole c s endings.Done made text before after old new same output read appended =
+    (read, record { text = text; output = subst (λ (z : List ℕ). IfSome before (λ input. IsOutput c s input Done z)) (sym same) output; appended = appended })
+written_whole c s endings.TestsFailed made text before after old new same output read appended =
+    (read, record { text = text; output = subst (λ (z : List ℕ). IfSome before (λ input. IsOutput c s input TestsFailed z)) (sym same) output; appended = appended })
+written_whole c s (endings.Refused r) made text before after old new same output read appended =
+    (read, record { text = text; output = subst (λ (z : List ℕ). IfSome before (λ input. IsOutput c s input (Refused r) z)) (sym same) output; appended = appended })
+written_whole c s (endings.Limit n) made text before after old new same output read appended =
+    (read, record { text = text; output = subst (λ (z : List ℕ). IfSome before (λ input. IsOutput c s input (answer_after (endings.Limit n)) z)) (sym same) output; appended = appended })
+
+pub returns-in-Done-clause-bytes : goal.returns-in-Done-clause-bytes
+returns-in-Done-clause-bytes g c = λ d t words.
     let before = g.S.Source.left c.args.source.now in
     let after = g.S.Source.left c.make_output.new.source in
     let old = g.K.Sink.written c.args.sink.now in
     let new = g.K.Sink.written c.write_all.new.sink in
-    let command = c.in-Some.command in
+    let r = c.in-Some.request in
+    moved c.args.words.now r.command d r.settings t Done before after old new c.in-Some.ensures words
+    (written_whole r.command r.settings endings.Done c.in-Ok.output.text.items c.as_slice.result.now before after old new
+    c.as_slice.ensures.value (subst (λ (e : Ending). IfSome before (λ input. IsOutput r.command r.settings input (answer_after e) c.in-Ok.output.text.items)) c.in-Done.is c.in-Ok.ensures.made)
+    c.in-Ok.ensures.read c.in-Ok-write_all.ensures.whole)
+
+pub returns-in-TestsFailed-clause-bytes : goal.returns-in-TestsFailed-clause-bytes
+returns-in-TestsFailed-clause-bytes g c = λ d t words.
+    let before = g.S.Source.left c.args.source.now in
+    let after = g.S.Source.left c.make_output.new.source in
+    let old = g.K.Sink.written c.args.sink.now in
+    let new = g.K.Sink.written c.write_all.new.sink in
+    let r = c.in-Some.request in
+    moved c.args.words.now r.command d r.settings t TestsFailed before after old new c.in-Some.ensures words
+    (written_whole r.command r.settings endings.TestsFailed c.in-Ok.output.text.items c.as_slice.result.now before after old new
+    c.as_slice.ensures.value (subst (λ (e : Ending). IfSome before (λ input. IsOutput r.command r.settings input (answer_after e) c.in-Ok.output.text.items)) c.in-TestsFailed.is c.in-Ok.ensures.made)
+    c.in-Ok.ensures.read c.in-Ok-write_all.ensures.whole)
+
+pub returns-in-Refused-clause-bytes : goal.returns-in-Refused-clause-bytes
+returns-in-Refused-clause-bytes g c = λ d t words.
+    let before = g.S.Source.left c.args.source.now in
+    let after = g.S.Source.left c.make_output.new.source in
+    let old = g.K.Sink.written c.args.sink.now in
+    let new = g.K.Sink.written c.write_all.new.sink in
+    let r = c.in-Some.request in
+    moved c.args.words.now r.command d r.settings t (Refused c.in-Refused.refusal) before after old new c.in-Some.ensures words
+    (written_whole r.command r.settings (endings.Refused c.in-Refused.refusal) c.in-Ok.output.text.items c.as_slice.result.now before after old new
+    c.as_slice.ensures.value (subst (λ (e : Ending). IfSome before (λ input. IsOutput r.command r.settings input (answer_after e) c.in-Ok.output.text.items)) c.in-Refused.is c.in-Ok.ensures.made)
+    c.in-Ok.ensures.read c.in-Ok-write_all.ensures.whole)
+
+completed : (words : List (List ℕ)) (c d : Command) (s t : Settings) (left : Option (List ℕ)) (answer : Answer) (text : List ℕ) → AskFor words c s → ReadsWords words d t
+    → IfSome left (λ input. IsOutput c s input answer text) → IfSome left (λ input. Completes d t input answer)
+completed words c d s t left answer text asked reads h =
+    let same = asked.only d t reads in
+    subst (λ (x : Command). IfSome left (λ input. Completes x t input answer)) same.0
+    (subst (λ (y : Settings). IfSome left (λ input. Completes c y input answer)) same.1 (all_complete c s left answer text h))
+
+pub returns-in-None-clause-complete : goal.returns-in-None-clause-complete
+returns-in-None-clause-complete g c = λ d t words. absurd (c.in-None.ensures (d, t, words))
+
+pub returns-in-Done-clause-complete : goal.returns-in-Done-clause-complete
+returns-in-Done-clause-complete g c = λ d t words.
+    let before = g.S.Source.left c.args.source.now in
+    let r = c.in-Some.request in
+    completed c.args.words.now r.command d r.settings t before Done c.in-Ok.output.text.items c.in-Some.ensures words
+    (subst (λ (e : Ending). IfSome before (λ input. IsOutput r.command r.settings input (answer_after e) c.in-Ok.output.text.items)) c.in-Done.is c.in-Ok.ensures.made)
+
+pub returns-in-TestsFailed-clause-complete : goal.returns-in-TestsFailed-clause-complete
+returns-in-TestsFailed-clause-complete g c = λ d t words.
+    let before = g.S.Source.left c.args.source.now in
+    let r = c.in-Some.request in
+    completed c.args.words.now r.command d r.settings t before TestsFailed c.in-Ok.output.text.items c.in-Some.ensures words
+    (subst (λ (e : Ending). IfSome before (λ input. IsOutput r.command r.settings input (answer_after e) c.in-Ok.output.text.items)) c.in-TestsFailed.is c.in-Ok.ensures.made)
+
+pub returns-in-Refused-clause-complete : goal.returns-in-Refused-clause-complete
+returns-in-Refused-clause-complete g c = λ d t words.
+    let before = g.S.Source.left c.args.source.now in
+    let r = c.in-Some.request in
+    completed c.args.words.now r.command d r.settings t before (Refused c.in-Refused.refusal) c.in-Ok.output.text.items c.in-Some.ensures words
+    (subst (λ (e : Ending). IfSome before (λ input. IsOutput r.command r.settings input (answer_after e) c.in-Ok.output.text.items)) c.in-Refused.is c.in-Ok.ensures.made)
+
+pub returns-in-Ok-write_all-clause-complete : goal.returns-in-Ok-write_all-clause-complete
+returns-in-Ok-write_all-clause-complete g c = λ d t words.
+    let before = g.S.Source.left c.args.source.now in
+    let r = c.in-Some.request in
+    completed c.args.words.now r.command d r.settings t before (Limit c.in-Limit.name) c.in-Ok.output.text.items c.in-Some.ensures words
+    (subst (λ (e : Ending). IfSome before (λ input. IsOutput r.command r.settings input (answer_after e) c.in-Ok.output.text.items)) c.in-Limit.is c.in-Ok.ensures.made)
+
+pub returns-clause-bytes : goal.returns-clause-bytes
+returns-clause-bytes g c = λ d t words.
+    let before = g.S.Source.left c.args.source.now in
+    let after = g.S.Source.left c.make_output.new.source in
+    let old = g.K.Sink.written c.args.sink.now in
+    let new = g.K.Sink.written c.write_all.new.sink in
+    let r = c.in-Some.request in
     let answer = answer_after c.in-Ok.output.ending in
-    let made = subst (λ (t : List ℕ). IfSome before (λ input. IsOutput command input answer t)) (sym c.as_slice.ensures.value) c.in-Ok.ensures.made in
-    let fact : HasBytes command (WriteFault (written_of c.in-Err-write_all.error)) before after old new = (
+    let made = subst (λ (z : List ℕ). IfSome before (λ input. IsOutput r.command r.settings input answer z)) (sym c.as_slice.ensures.value) c.in-Ok.ensures.made in
+    let fact : HasBytes r.command r.settings (WriteFault (written_of c.in-Err-write_all.error)) before after old new = (
       c.in-Ok.ensures.read,
       record {
         answer = answer;
@@ -35,6 +124,5 @@ returns-clause-bytes g c = λ d words.
         appended = c.in-Err-write_all.ensures.front;
       },
     ) in
-    let same = one_command command d (sym c.in-Some.ensures ∙ words) in
-    subst (λ (x : Command). HasBytes x c.write_fault.result before after old new) same
-    (subst (λ (a : Answer). HasBytes command a before after old new) (sym c.write_fault.ensures) fact)
+    moved c.args.words.now r.command d r.settings t c.write_fault.result before after old new c.in-Some.ensures words
+    (subst (λ (a : Answer). HasBytes r.command r.settings a before after old new) (sym c.write_fault.ensures) fact)

@@ -1,0 +1,54 @@
+-- What the bytes of an input are: a text of the grammar, or why they are none.
+use Rattle.std.specs.Prelude.{ℕ, ◌≡◌, ◌⊎◌, true, false, List, Option}
+use Rattle.tg_lex.specs.declared.token.Token.{Token}
+use Rattle.tg_lex.specs.Grammar.{Reads, HasWrongByte, HasOpenComment, HasLargeNumber}
+use Rattle.tg_lex.specs.Load.{load_passes}
+use Rattle.tg_grammar.specs.Seen.{seen, declarations}
+use Rattle.tg_grammar.specs.Parts.{Part, Value, Theory}
+use Rattle.tg_grammar.specs.Parts as parts
+use Rattle.tg_grammar.specs.Reading.{IsText}
+use Rattle.tg_syntax.specs.Parsing.{load_limit, IsFormFault}
+use Rattle.tg_types.specs.declared.options.Settings.{Settings}
+use Rattle.tg_cmd.specs.Form.{Form, IsForm, raw_theory}
+use Rattle.tg_cmd.specs.Outcomes.{raw_outcomes}
+use Rattle.tg_cmd.specs.Verdicts.{IsOutcome}
+
+-- the bytes have tokens whose load of nesting is allowed, and they are a text of the part
+pub record IsTextOf (n : Part) (bytes : List ℕ) (value : Value n) : Type 0 where
+  pub tokens : List Token
+  pub lexed : Reads bytes tokens
+  pub shallow : load_passes load_limit bytes tokens ≡ false
+  pub text : IsText n value (seen bytes tokens)
+
+-- the first fault is a byte that begins no token, or a comment that isn't closed
+abbrev pub HasTokenFault : List ℕ → ℕ → Type 0
+HasTokenFault bytes place =
+    (at : ℕ) × (before : List Token) × (HasWrongByte bytes at before ⊎ HasOpenComment bytes at before) × (place ≡ declarations (seen bytes before))
+
+-- or tokens that are no text of the part
+abbrev pub HasTextFault : Part → List ℕ → ℕ → Type 0
+HasTextFault n bytes place =
+    (tokens : List Token) × Reads bytes tokens × (load_passes load_limit bytes tokens ≡ false) × IsFormFault n (seen bytes tokens) place
+
+abbrev pub HasFormFault : Part → List ℕ → ℕ → Type 0
+HasFormFault n bytes place = HasTokenFault bytes place ⊎ HasTextFault n bytes place
+
+-- the first fault is a number of 2^64 or more
+abbrev pub IsTooLarge : List ℕ → Type 0
+IsTooLarge bytes = (at : ℕ) × (before : List Token) × HasLargeNumber bytes at before
+
+abbrev pub IsTooNested : List ℕ → Type 0
+IsTooNested bytes = (tokens : List Token) × Reads bytes tokens × (load_passes load_limit bytes tokens ≡ true)
+
+-- ---- the form
+
+-- the bytes are a theory of the form
+pub record ReadsForm (bytes : List ℕ) (f : Form) : Type 0 where
+  pub form : IsForm f
+  pub text : IsTextOf Theory bytes (raw_theory f)
+
+-- and the outcome of its test, in outcomes of these settings
+pub record ReadsJudged (s : Settings) (bytes : List ℕ) (f : Form) (outcome : Option ℕ) : Type 0 where
+  pub form : IsForm f
+  pub recorded : IsOutcome f outcome
+  pub text : IsTextOf parts.Judge bytes (raw_theory f, raw_outcomes s outcome)

@@ -1,0 +1,13 @@
+pub mod CertificateRules
+pub mod DatatypeRules
+pub mod DeclarationRules
+pub mod FormulaRules
+pub mod Left
+pub mod Moving
+pub mod OutcomeRules
+pub mod PatternRules
+pub mod Parsed
+pub mod Repetitions
+pub mod Rules
+pub mod TermRepetitions
+pub mod TermRules

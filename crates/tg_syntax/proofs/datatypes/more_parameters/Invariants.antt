@@ -1,0 +1,14 @@
+use Rattle.std.proofs.Common.{◌≡◌, ◌≤◌, length}
+use Rattle.tg_rules.specs.Repetition.{with_front}
+use Rattle.tg_grammar.specs.Parts.{MoreParameters}
+use Rattle.tg_grammar.specs.Reading.{reads}
+use Rattle.tg_syntax.proofs.datatypes.more_parameters.Given as goal
+
+abbrev pub invariant-loop-alloc : goal.invariant-loop-alloc
+invariant-loop-alloc l = record {
+  so_far : with_front l.names (reads MoreParameters l.reader) ≡ reads MoreParameters l.fn.reader;
+  shorter : length l.reader ≤ length l.fn.reader;
+}
+
+abbrev pub decreases-loop-alloc : goal.decreases-loop-alloc
+decreases-loop-alloc l = length l.reader

@@ -1,0 +1,53 @@
+-- What a reader of a part answers, and what it leaves.
+use Rattle.std.specs.Prelude.{ℕ, ◌≡◌, List, [], ◌∷◌, Option, Some, None, Result, Ok, Err, if◌then◌else◌}
+use Rattle.tg_rules.specs.Reader.{Read, ok, err, mapped, followed, starts, token_at}
+use Rattle.tg_grammar.specs.Seen.{Seen}
+use Rattle.tg_grammar.specs.First.{words}
+use Rattle.tg_grammar.specs.Reading.{kind}
+use Rattle.tg_syntax.specs.declared.reader.Stop.{Stop}
+use Rattle.tg_syntax.specs.declared.reader.Stop.TheVariants.{Memory, Wrong}
+
+-- the answer, and the tokens that are left, are what is read; where a token is wrong, it is the first of those that are left
+abbrev pub Gives : {A : Type 0} → Result A Stop → List Seen → Read Seen A → Type 0
+Gives (Ok value) left r = r ≡ ok value left
+Gives (Err Wrong) left r = r ≡ err left
+Gives (Err Memory) left r = Unit {0}
+
+-- the next token, which there is where a reader goes on
+abbrev pub next_seen : List Seen → Seen
+next_seen [] = record { kind = 0; value = 0; text = [] }
+next_seen (t ∷ ts) = t
+
+-- the next token is taken, and the answer is its kind; or it is wrong
+abbrev pub Takes : Result ℕ Stop → List Seen → List Seen → Read Seen Seen → Type 0
+Takes (Ok kind) ts left r = (r ≡ ok (next_seen ts) left) × (kind ≡ (next_seen ts).kind)
+Takes (Err Wrong) ts left r = r ≡ err left
+Takes (Err Memory) ts left r = ⊥
+
+-- the text or the value of the next token, which is of one of these kinds
+abbrev pub text_at : List ℕ → List Seen → Read Seen (List ℕ)
+text_at ks ts = mapped (λ s. s.text) (token_at kind ks ts)
+
+abbrev pub value_at : List ℕ → List Seen → Read Seen ℕ
+value_at ks ts = mapped (λ s. s.value) (token_at kind ks ts)
+
+-- the kind, the text and the value of the next token
+abbrev pub next_kind : List Seen → Option ℕ
+next_kind [] = None
+next_kind (t ∷ ts) = Some t.kind
+
+abbrev pub next_text : List Seen → List ℕ
+next_text [] = []
+next_text (t ∷ ts) = t.text
+
+abbrev pub next_value : List Seen → ℕ
+next_value [] = 0
+next_value (t ∷ ts) = t.value
+
+-- what is read behind a token of this kind
+abbrev pub behind : {A : Type 0} → ℕ → (List Seen → Read Seen A) → List Seen → Read Seen A
+behind {A} k next ts = mapped {B = A} (λ x. x.1) (followed {B = A} (token_at kind (k ∷ []) ts) next)
+
+-- the text of a word that isn't reserved, where one is next
+abbrev pub optional_text : List Seen → Read Seen (Option (List ℕ))
+optional_text ts = let a = text_at words ts in if starts kind words ts then mapped Some a else ok None ts

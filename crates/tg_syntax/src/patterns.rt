@@ -1,0 +1,92 @@
+//! Patterns of the arguments of functions.
+ghost use Rattle.std.specs.Prelude.{◌≡◌, ◌<◌, ◌≤◌, length, OnOk};
+ghost use Rattle.tg_rules.specs.Reader.{starts};
+ghost use Rattle.tg_grammar.specs.First.{pattern_kinds};
+ghost use Rattle.tg_grammar.specs.Parts.{Pattern, Patterns, Words};
+ghost use Rattle.tg_grammar.specs.Reading.{kind, reads};
+ghost use Rattle.tg_syntax.specs.Answers.{Gives};
+ghost use Rattle.tg_syntax.specs.DeclarationPieces.{bracketed_pattern, pattern_head};
+ghost use Rattle.tg_syntax.specs.TermPieces.{by_rule};
+
+use crate::reader::{Reader, Stop};
+use sqlite_items::Items;
+use std::alloc::Global;
+use tg_grammar::kinds::{CLOSE_PAREN, OPEN_PAREN, SUC_WORD, ZERO_NUMBER};
+use tg_grammar::{RawCon, RawPat};
+use tg_types::Name;
+
+/// `0`, a constructor and names in brackets, or a name.
+#[tactic(auto, using(crate::proofs::PatternRules::pattern_is))]
+fn pattern(alloc: Global, reader: &mut Reader) -> Result<RawPat, Stop>
+    ensures exact { Gives result reader.new (reads Pattern reader.old) }
+    ensures less { OnOk result (length reader.new < length reader.old) }
+{
+    if reader.is_next(&[ZERO_NUMBER]) {
+        reader.take(&[ZERO_NUMBER])?;
+        return Ok(RawPat::Zero);
+    }
+    if reader.is_next(&[OPEN_PAREN]) {
+        return bracketed_pattern(alloc, reader);
+    }
+    Ok(RawPat::Word(reader.word(alloc)?))
+}
+
+/// `(`, a constructor, names and `)`.
+fn bracketed_pattern(alloc: Global, reader: &mut Reader) -> Result<RawPat, Stop>
+    ensures exact { Gives result reader.new (by_rule bracketed_pattern reader.old) }
+    ensures less { OnOk result (length reader.new < length reader.old) }
+{
+    reader.take(&[OPEN_PAREN])?;
+    let constructor = pattern_head(alloc, reader)?;
+    let names = words(alloc, reader)?;
+    reader.take(&[CLOSE_PAREN])?;
+    Ok(RawPat::Con(constructor, names))
+}
+
+/// `Suc` or a name.
+fn pattern_head(alloc: Global, reader: &mut Reader) -> Result<RawCon, Stop>
+    ensures exact { Gives result reader.new (by_rule pattern_head reader.old) }
+    ensures less { OnOk result (length reader.new < length reader.old) }
+{
+    if reader.is_next(&[SUC_WORD]) {
+        reader.take(&[SUC_WORD])?;
+        return Ok(RawCon::Suc);
+    }
+    Ok(RawCon::Named(reader.word(alloc)?))
+}
+
+/// Patterns, one after another.
+#[tactic(auto, using(crate::proofs::PatternRules::patterns))]
+pub(crate) fn patterns(alloc: Global, reader: &mut Reader) -> Result<Items<RawPat>, Stop>
+    ensures exact { Gives result reader.new (reads Patterns reader.old) }
+    ensures less { OnOk result (length reader.new ≤ length reader.old) }
+{
+    let mut patterns = Items::new(alloc);
+    while is_pattern_next(reader) {
+        let pattern = pattern(alloc, reader)?;
+        patterns.push(pattern)?;
+    }
+    Ok(patterns)
+}
+
+/// The next token begins a pattern.
+#[tactic(auto, using(crate::proofs::TermRules::starts_either))]
+fn is_pattern_next(reader: &Reader) -> bool
+    ensures { result ≡ starts kind pattern_kinds reader.now }
+{
+    reader.is_next(&[ZERO_NUMBER, OPEN_PAREN]) || reader.is_word_next()
+}
+
+/// Names, one after another.
+#[tactic(auto, using(crate::proofs::PatternRules::words_by))]
+pub(crate) fn words(alloc: Global, reader: &mut Reader) -> Result<Items<Name>, Stop>
+    ensures exact { Gives result reader.new (reads Words reader.old) }
+    ensures less { OnOk result (length reader.new ≤ length reader.old) }
+{
+    let mut words = Items::new(alloc);
+    while reader.is_word_next() {
+        let word = reader.word(alloc)?;
+        words.push(word)?;
+    }
+    Ok(words)
+}
