@@ -7,7 +7,7 @@ PROGRAM is crates/testgen/out/testgen where none is named. A case is a folder of
   status  the exit status            out   standard output, byte for byte      err   standard error, byte for byte
 
 After them come cases that are made here: each front of a theory with the place of its fault, inputs of the greatest size and
-one byte more, and three texts with every kind of token in every place, whose faults viable.py tells.
+one byte more, and four texts with every kind of token in every place, whose faults viable.py tells.
 
 The last line is 'N passed, N failed'; the exit status is 0 where none failed and some passed.
 """
@@ -59,6 +59,8 @@ SMALL = (
     ('generate', 'Theory', INC.decode().replace(';', ' ;').split()),
     ('generate', 'Theory', "theory S version 1 begin datatype 'a t = A | B 'a ( 'a t ) ; primrec f :: nat t => nat where f A = 0 ; "
      'f ( B y ys ) = y ; spec x . let y = f x in ~ y * 2 < Suc y & ( case x of { A => True , B z zs => z = 1 } ) ; end'),
+    ('generate', 'Theory', "theory M version 1 begin datatype ( 'a , 'b ) p = P 'a 'b ; definition d :: ( nat , bool ) p => bool where "
+     'd x = if x = y then a --> b | c else 1 + 2 - 3 * 4 div 5 mod 6 <= Suc z ; program put :: nat => bool ; spec x . put 0 ; end'),
     ('judge', 'Judge', 'theory O version 1 begin end outcomes depth 3 bound 8 seed 1 tries 1000 width 16 begin answer 1 ( A 2 ) ; '
      'raised 2 ; end'),
 )
@@ -67,7 +69,7 @@ KINDS = [*'(){}[],;.=<+-*&|~?!', '<=', '-->', '=>', '::', *sorted(viable.RESERVE
 
 
 def tokens():
-    """Three small texts with one token put in place of each, and behind the last."""
+    """Four small texts with one token put in place of each, and behind the last."""
     for number, (command, part, text) in enumerate(SMALL):
         text = text.split() if isinstance(text, str) else text
         for at in range(len(text) + 1):
