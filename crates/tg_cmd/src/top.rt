@@ -20,11 +20,13 @@ use tg_types::Name;
 ///
 /// `Usage` comes exactly where the words aren't such words, and then nothing is read or written.
 /// `ReadFault` comes only where the source's count of faults rose in this call, `WriteFault` only where the
-/// sink's did. `Limit` comes exactly where the input is longer than 16,777,216 bytes, has a number of 2^64
-/// or more, or nests too deep; `Refused(Form)` exactly where it is no text of the grammar, and
-/// `Refused(Early)` where it is one of another form; the first in this order, and one line is written.
-/// Else the report is written, and the answer is `TestsFailed` exactly where `judge` gives the verdict
-/// `failed`, else `Done`. The whole input is read before anything is written.
+/// sink's did. `Limit(Input)` comes exactly where the input is longer than 16,777,216 bytes. Else the first
+/// fault of its tokens is answered, as `Limit(Number)` where it is a number of 2^64 or more, and as
+/// `Refused(Form)` where it is another; else `Limit(Nesting)` where the tokens nest too deep; else
+/// `Refused(Form)` where they are no text of the grammar, and `Refused(Early)` where they are one of another
+/// form. At each of these one line is written. Else the report is written, and the answer is `TestsFailed`
+/// exactly where `judge` gives the verdict `failed`, else `Done`. The whole input is read before anything is
+/// written.
 ///
 /// An input of the form is answered with its report, but for faults and want of memory.
 ///
