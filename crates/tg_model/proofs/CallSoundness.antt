@@ -9,7 +9,7 @@ use Rattle.std.proofs.lemmas.List.{map-append, length-map}
 use Rattle.std.proofs.lemmas.Option.{slice_get-map, slice_get_within}
 use Rattle.tg_model.specs.Types.{Ty, tys}
 use Rattle.tg_model.specs.Tree as tree
-use Rattle.tg_model.specs.Tree.{Tree, Trees, Arms, bound, free, literal, truth, con, call, put, choice, case, bind, op, listed}
+use Rattle.tg_model.specs.Tree.{Tree, Trees, Arms, bound, free, literal, truth, con, call, put, choice, case, bind, op, elements}
 use Rattle.tg_model.specs.Value.{Value, values, wrong, size, same_values}
 use Rattle.tg_model.specs.Theory.{Theory, Function, Body, plain, recursive, numbered, first_constructor, instance, datatype_of, IsClosed, AreClosed}
 use Rattle.tg_model.specs.Typing.{HasType, AreTyped, least}

@@ -57,7 +57,7 @@ base_place d c (x ∷ ks) m k e = by_test (list_any (λ t. nat_eq (datatype_of t
         let first = ap (λ (r : ℕ × Constructor). r.0) q in
         (0, omega (arith, first), ap (λ (r : ℕ × Constructor). Some r.1) q)
 
-instances_listed : (us : List Ty) (ts : Tys) → instances us ts ≡ tys (map (instance us) (types.listed ts))
+instances_listed : (us : List Ty) (ts : Tys) → instances us ts ≡ tys (map (instance us) (types.elements ts))
 instances_listed us types.none = refl
 instances_listed us (types.more t ts) = ap (types.more (instance us t)) (instances_listed us ts)
 
@@ -82,10 +82,10 @@ module _ (th : Theory) (d : ℕ) (below : ℕ → List Value → Value)
     least_typed (meta n) h = absurd h
     least_typed (applied e ts) h =
         subst (λ (x : Tys). HasType th (below e (all_least below vs ts)) (applied e x)) (sym (instances_listed us ts))
-        (typed_below e h.0.1.0 (map (instance us) (types.listed ts)) (all_least below vs ts) h.0.0 h.0.1.1
-        (length-map (types.listed ts) (instance us) ∙ h.0.1.2) (all_least_typed ts h.1))
+        (typed_below e h.0.1.0 (map (instance us) (types.elements ts)) (all_least below vs ts) h.0.0 h.0.1.1
+        (length-map (types.elements ts) (instance us) ∙ h.0.1.2) (all_least_typed ts h.1))
 
-    all_least_typed : (ts : Tys) → AreBefore th d (length us) ts → AreTyped th (all_least below vs ts) (map (instance us) (types.listed ts))
+    all_least_typed : (ts : Tys) → AreBefore th d (length us) ts → AreTyped th (all_least below vs ts) (map (instance us) (types.elements ts))
     all_least_typed types.none h = tt
     all_least_typed (types.more t ts) h = (least_typed t h.0, all_least_typed ts h.1)
 

@@ -4,7 +4,7 @@ use Rattle.std.specs.Prelude.{slice_get, option_map}
 use Rattle.std.proofs.lemmas.List.{map-append}
 use Rattle.tg_model.specs.Types.{Ty}
 use Rattle.tg_model.specs.Tree as tree
-use Rattle.tg_model.specs.Tree.{Tree, Trees, free, listed}
+use Rattle.tg_model.specs.Tree.{Tree, Trees, free, elements}
 use Rattle.tg_model.specs.Value as value
 use Rattle.tg_model.specs.Value.{Value, Values, number, boolean, made, wrong, size, total_size}
 use Rattle.tg_model.specs.Theory.{Theory, Function, numbered, first_constructor}
@@ -24,7 +24,7 @@ world_answers th tb zero vs = refl
 world_answers th tb (suc n) vs = refl
 
 -- an argument of a constructor is smaller than the value that it makes
-part_size : (vs : Values) (i : ℕ) (v : Value) → slice_get (value.listed vs) i ≡ Some v → size v ≤ total_size vs
+part_size : (vs : Values) (i : ℕ) (v : Value) → slice_get (value.elements vs) i ≡ Some v → size v ≤ total_size vs
 part_size value.none i v e = cc
 part_size (value.more w vs) zero v e = let p : w ≡ v = cc e in omega (arith, ap size p)
 part_size (value.more w vs) (suc i) v e = let p = part_size vs i v e in omega arith
@@ -52,8 +52,8 @@ smaller zero first (made c vs) k parts e i u h = cc
 smaller (suc d) first (number n) k parts e i u h = cc
 smaller (suc d) first (boolean b) k parts e i u h = cc
 smaller (suc d) first (made c vs) k parts e i u h =
-    let p = ap (λ (q : ℕ × List Value). q.1) (opened_if (nat_le first c) (c - first, value.listed vs) (k, parts) e) in
-    let q : slice_get (value.listed vs) i ≡ Some u = ap (λ (l : List Value). slice_get l i) p ∙ h in
+    let p = ap (λ (q : ℕ × List Value). q.1) (opened_if (nat_le first c) (c - first, value.elements vs) (k, parts) e) in
+    let q : slice_get (value.elements vs) i ≡ Some u = ap (λ (l : List Value). slice_get l i) p ∙ h in
     let r = part_size vs i u q in omega arith
 
 pub case_at : (th : Theory) (self : ℕ) (x : Function) (place : ℕ) (cases : List Tree) (all : List (List Ty)) (k : ℕ) (args : List Ty)
@@ -96,7 +96,7 @@ typed_place th f zero vs ts t h e = cc
 typed_place th f (suc n) vs ts t h e = typed_at th f ts vs n t h e
 
 -- the value of an argument that is a variable
-pub listed_value : (w : World) (env loc : List Value) (ts : Trees) (n : ℕ) → numbered (values_in w env loc ts) n ≡ option_map (value_in w env loc) (numbered (listed ts) n)
+pub listed_value : (w : World) (env loc : List Value) (ts : Trees) (n : ℕ) → numbered (values_in w env loc ts) n ≡ option_map (value_in w env loc) (numbered (elements ts) n)
 listed_value w env loc ts zero = refl
 listed_value w env loc tree.none (suc n) = refl
 listed_value w env loc (tree.more t ts) (suc zero) = refl

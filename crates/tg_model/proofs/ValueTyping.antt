@@ -8,7 +8,7 @@ use Rattle.std.proofs.lemmas.Option.{slice_get-map}
 use Rattle.tg_model.specs.Types as types
 use Rattle.tg_model.specs.Types.{Ty, nat, bool, parameter, meta, applied, Tys, tys}
 use Rattle.tg_model.specs.Value as value
-use Rattle.tg_model.specs.Value.{Value, Values, number, boolean, made, values, listed, wrong, same_value}
+use Rattle.tg_model.specs.Value.{Value, Values, number, boolean, made, values, elements, wrong, same_value}
 use Rattle.tg_model.specs.Tree.{Operator, successor, negation, conjunction, disjunction, implication, equality, less, less_equal, plus, minus, times, divide, modulo, unnamed}
 use Rattle.tg_model.specs.Theory.{Theory, Datatype, Constructor, Owned, first_constructor, instance}
 use Rattle.tg_model.specs.Typing.{HasType, HaveTypes, AreTyped}
@@ -16,13 +16,13 @@ use Rattle.tg_model.specs.Denotation.{opened, operated, chosen, on_number, on_nu
 use Rattle.tg_model.specs.TermTyping.{IsOperation, IsDatatype, datatype_at, constructor_arguments}
 use Rattle.tg_model.proofs.Numbering.{numbered_constructor}
 
-pub values-listed : (vs : Values) → values (listed vs) ≡ vs
-values-listed value.none = refl
-values-listed (value.more v vs) = ap (value.more v) (values-listed vs)
+pub values-elements : (vs : Values) → values (elements vs) ≡ vs
+values-elements value.none = refl
+values-elements (value.more v vs) = ap (value.more v) (values-elements vs)
 
-listed-tys : (us : List Ty) → types.listed (tys us) ≡ us
-listed-tys [] = refl
-listed-tys (u ∷ us) = ap (λ rest. u ∷ rest) (listed-tys us)
+elements-tys : (us : List Ty) → types.elements (tys us) ≡ us
+elements-tys [] = refl
+elements-tys (u ∷ us) = ap (λ rest. u ∷ rest) (elements-tys us)
 
 -- the number and the arguments of a datatype's type
 abbrev number_of : Ty → ℕ
@@ -37,10 +37,10 @@ arguments_of nat = []
 arguments_of bool = []
 arguments_of (parameter n) = []
 arguments_of (meta n) = []
-arguments_of (applied d ts) = types.listed ts
+arguments_of (applied d ts) = types.elements ts
 
 same_arguments : (d e : ℕ) (us vs : List Ty) → applied d (tys us) ≡ applied e (tys vs) → us ≡ vs
-same_arguments d e us vs h = sym (listed-tys us) ∙ (ap arguments_of h ∙ listed-tys vs)
+same_arguments d e us vs h = sym (elements-tys us) ∙ (ap arguments_of h ∙ elements-tys vs)
 
 module _ (th : Theory) where
   pub typed_at : (f : Ty → Ty) (ts : List Ty) (vs : List Value) (k : ℕ) (t : Ty) → AreTyped th vs (map f ts) → slice_get ts k ≡ Some t
@@ -187,13 +187,13 @@ module _ (th : Theory) where
       let arguments = map (instance us) o.constructor.arguments in
       record {
         place = c - first;
-        parts = listed vs;
+        parts = elements vs;
         arguments = arguments;
-        is = if_then (nat_le first c) (c - first, listed vs) (le-leb first c after);
+        is = if_then (nat_le first c) (c - first, elements vs) (le-leb first c after);
         found = ap (λ (p : Option Datatype). slice_get (option_map_or (λ (y : Datatype). map (λ (k : Constructor). map (instance us) k.arguments) y.constructors) p []) (c - first)) is
             ∙ (slice_get-map (λ (k : Constructor). map (instance us) k.arguments) x.constructors (c - first)
             ∙ ap (option_map (λ (k : Constructor). map (instance us) k.arguments)) placed);
-        typed = subst (λ (ws : Values). HaveTypes th ws arguments) (sym (values-listed vs)) typed;
+        typed = subst (λ (ws : Values). HaveTypes th ws arguments) (sym (values-elements vs)) typed;
       }
 
   pub opens : (n : ℕ) (us : List Ty) (v : Value) → IsDatatype th n us → HasType th v (datatype_at n us) → Opens n us v

@@ -3,7 +3,7 @@ use Rattle.std.specs.Prelude.{ℕ, zero, suc, Bool, not, ◌&&◌, ◌||◌, ◌
 use Rattle.std.specs.Option.{option_map_or}
 use Rattle.tg_model.specs.Tree.{Tree, Trees, Arms, bound, free, literal, truth, con, call, put, choice, case, bind, op, arm, end, Operator, successor, negation, conjunction, disjunction, implication, equality, less, less_equal, plus, minus, times, divide, modulo, unnamed}
 use Rattle.tg_model.specs.Tree as tree
-use Rattle.tg_model.specs.Value.{Value, number, boolean, made, values, listed, wrong, same_value, size}
+use Rattle.tg_model.specs.Value.{Value, number, boolean, made, values, elements, wrong, same_value, size}
 use Rattle.tg_model.specs.Theory.{Theory, Function, Body, plain, recursive, numbered, first_constructor, datatype_of}
 use Rattle.tg_model.specs.Table.{Table, answer_of}
 
@@ -64,7 +64,7 @@ chosen _ = wrong
 abbrev pub opened : ℕ → ℕ → Value → Option (ℕ × List Value)
 opened zero first (number zero) = Some (0, [])
 opened zero first (number (suc n)) = Some (1, number n ∷ [])
-opened (suc d) first (made c vs) = if nat_le first c then Some (c - first, listed vs) else None
+opened (suc d) first (made c vs) = if nat_le first c then Some (c - first, elements vs) else None
 opened _ _ _ = None
 
 -- What a term is read in: the values of calls of functions and of the program, and each datatype's first constructor.

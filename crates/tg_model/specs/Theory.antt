@@ -99,7 +99,7 @@ abbrev mutual
   IsClosed th (parameter n) = ⊥
   IsClosed th (meta n) = ⊥
   IsClosed th (applied d ts) =
-      ((x : Datatype) × (numbered th.datatypes d ≡ Some x) × (length (types.listed ts) ≡ x.parameters)) × AreClosed th ts
+      ((x : Datatype) × (numbered th.datatypes d ≡ Some x) × (length (types.elements ts) ≡ x.parameters)) × AreClosed th ts
 
   pub AreClosed : Theory → Tys → Type 0
   AreClosed th types.none = Unit {0}

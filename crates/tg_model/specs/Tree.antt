@@ -47,9 +47,9 @@ abbrev pub trees : List Tree → Trees
 trees [] = none
 trees (t ∷ ts) = more t (trees ts)
 
-abbrev pub listed : Trees → List Tree
-listed none = []
-listed (more t ts) = t ∷ listed ts
+abbrev pub elements : Trees → List Tree
+elements none = []
+elements (more t ts) = t ∷ elements ts
 
 abbrev pub one : Tree → Trees
 one t = more t none

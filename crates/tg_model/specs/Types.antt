@@ -19,6 +19,6 @@ abbrev pub tys : List Ty → Tys
 tys [] = none
 tys (t ∷ ts) = more t (tys ts)
 
-abbrev pub listed : Tys → List Ty
-listed none = []
-listed (more t ts) = t ∷ listed ts
+abbrev pub elements : Tys → List Ty
+elements none = []
+elements (more t ts) = t ∷ elements ts

@@ -15,9 +15,9 @@ abbrev pub values : List Value → Values
 values [] = none
 values (v ∷ vs) = more v (values vs)
 
-abbrev pub listed : Values → List Value
-listed none = []
-listed (more v vs) = v ∷ listed vs
+abbrev pub elements : Values → List Value
+elements none = []
+elements (more v vs) = v ∷ elements vs
 
 -- the value of a use that no typing allows
 abbrev pub wrong : Value

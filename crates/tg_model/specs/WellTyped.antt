@@ -1,6 +1,6 @@
 -- Theories whose bodies are well typed and well shaped: what acceptance gives, and all that the meaning rests on.
 use Rattle.std.specs.Prelude.{ℕ, suc, ◌≡◌, ◌<◌, ◌≤◌, ◌+◌, ◌⊎◌, ◌++◌, List, [], ◌∷◌, length, Some, slice_get}
-use Rattle.tg_model.specs.Tree.{Tree, Trees, free, listed}
+use Rattle.tg_model.specs.Tree.{Tree, Trees, free, elements}
 use Rattle.tg_model.specs.Types as types
 use Rattle.tg_model.specs.Types.{Ty, nat, bool, parameter, meta, applied, Tys, tys}
 use Rattle.tg_model.specs.Theory.{Theory, Datatype, Constructor, Function, Body, plain, recursive, numbered, first_constructor, IsClosed, AreClosed}
@@ -16,7 +16,7 @@ module _ (th : Theory) (d params : ℕ) where
     IsBefore bool = Unit {0}
     IsBefore (parameter n) = (0 < n) × (n ≤ params)
     IsBefore (meta n) = ⊥
-    IsBefore (applied e ts) = ((e < d) × ((x : Datatype) × (numbered th.datatypes e ≡ Some x) × (length (types.listed ts) ≡ x.parameters))) × AreBefore ts
+    IsBefore (applied e ts) = ((e < d) × ((x : Datatype) × (numbered th.datatypes e ≡ Some x) × (length (types.elements ts) ≡ x.parameters))) × AreBefore ts
 
     pub AreBefore : Tys → Type 0
     AreBefore types.none = Unit {0}
@@ -33,7 +33,7 @@ pub record IsInhabited (th : Theory) (d : ℕ) (x : Datatype) : Type 0 where
 -- at `place` is one of the variables past the first `start`, which stand for the constructor's `count` arguments
 abbrev pub IsLower : ℕ → ℕ → ℕ → ℕ → ℕ → Trees → Type 0
 IsLower self place start count f ts =
-    (f < self) ⊎ ((f ≡ self) × ((i : ℕ) × (i < count) × (numbered (listed ts) place ≡ Some (free (suc (start + i))))))
+    (f < self) ⊎ ((f ≡ self) × ((i : ℕ) × (i < count) × (numbered (elements ts) place ≡ Some (free (suc (start + i))))))
 
 -- one case for each constructor, typed where the other arguments and then the constructor's are its variables
 module _ (th : Theory) (self : ℕ) (x : Function) (place : ℕ) where

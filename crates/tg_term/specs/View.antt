@@ -1,7 +1,7 @@
 -- The tree of a node. In a contract the terms of a node are trees already.
 use Rattle.std.specs.Prelude.{◌≡◌, ℕ, List, [], ◌∷◌, refl}
 use Rattle.std.proofs.Common.{ap, sym, ◌∙◌}
-use Rattle.tg_model.specs.Tree.{Tree, Arms, bound, free, literal, truth, con, call, put, choice, case, bind, op, end, arm, trees, listed}
+use Rattle.tg_model.specs.Tree.{Tree, Arms, bound, free, literal, truth, con, call, put, choice, case, bind, op, end, arm, trees, elements}
 use Rattle.tg_term.specs.Operators.{operator, operator_number, operator_number-operator}
 use Rattle.tg_term.specs.declared.terms.Branch.{Branch}
 use Rattle.tg_term.specs.declared.terms.Node.{Node}
@@ -34,41 +34,41 @@ branches-arms : (bs : List Branch) → branches (arms bs) ≡ bs
 branches-arms [] = refl
 branches-arms (b ∷ bs) = ap (λ rest. b ∷ rest) (branches-arms bs)
 
-pub listed-trees : (ts : List Tree) → listed (trees ts) ≡ ts
-listed-trees [] = refl
-listed-trees (t ∷ ts) = ap (λ rest. t ∷ rest) (listed-trees ts)
+pub elements-trees : (ts : List Tree) → elements (trees ts) ≡ ts
+elements-trees [] = refl
+elements-trees (t ∷ ts) = ap (λ rest. t ∷ rest) (elements-trees ts)
 
 abbrev node_of : Tree → Node
 node_of (bound k) = Bound k
 node_of (free n) = Free n
 node_of (literal n) = Lit n
 node_of (truth b) = Truth b
-node_of (con c ts) = Con c (listed ts)
-node_of (call f ts) = Call f (listed ts)
-node_of (put ts) = Put (listed ts)
-node_of (choice ts) = If (listed ts)
+node_of (con c ts) = Con c (elements ts)
+node_of (call f ts) = Call f (elements ts)
+node_of (put ts) = Put (elements ts)
+node_of (choice ts) = If (elements ts)
 node_of (case d t arms) = Case d t (branches arms)
 node_of (bind t body) = Let t body
-node_of (op o ts) = Op (operator_number o) (listed ts)
+node_of (op o ts) = Op (operator_number o) (elements ts)
 
 node_of-tree : (n : Node) → node_of (tree n) ≡ n
 node_of-tree (Bound k) = refl
 node_of-tree (Free n) = refl
 node_of-tree (Lit n) = refl
 node_of-tree (Truth b) = refl
-node_of-tree (Con c ts) = ap (Con c) (listed-trees ts)
-node_of-tree (Call f ts) = ap (Call f) (listed-trees ts)
-node_of-tree (Put ts) = ap Put (listed-trees ts)
-node_of-tree (If ts) = ap If (listed-trees ts)
+node_of-tree (Con c ts) = ap (Con c) (elements-trees ts)
+node_of-tree (Call f ts) = ap (Call f) (elements-trees ts)
+node_of-tree (Put ts) = ap Put (elements-trees ts)
+node_of-tree (If ts) = ap If (elements-trees ts)
 node_of-tree (Case d t bs) = ap (Case d t) (branches-arms bs)
 node_of-tree (Let t body) = refl
-node_of-tree (Op o ts) = λ i. Op (operator_number-operator o i) (listed-trees ts i)
+node_of-tree (Op o ts) = λ i. Op (operator_number-operator o i) (elements-trees ts i)
 
 pub tree-inj : (m n : Node) → tree m ≡ tree n → m ≡ n
 tree-inj m n same = sym (node_of-tree m) ∙ ap node_of same ∙ node_of-tree n
 
 pub trees-inj : (ts us : List Tree) → trees ts ≡ trees us → ts ≡ us
-trees-inj ts us same = sym (listed-trees ts) ∙ ap listed same ∙ listed-trees us
+trees-inj ts us same = sym (elements-trees ts) ∙ ap elements same ∙ elements-trees us
 
 pub arms-inj : (bs cs : List Branch) → arms bs ≡ arms cs → bs ≡ cs
 arms-inj bs cs same = sym (branches-arms bs) ∙ ap branches same ∙ branches-arms cs
