@@ -14,7 +14,7 @@ use Rattle.tg_model.specs.Value.{Value, values, wrong, size, same_values}
 use Rattle.tg_model.specs.Theory.{Theory, Function, Body, plain, recursive, numbered, first_constructor, instance, datatype_of, IsClosed, AreClosed}
 use Rattle.tg_model.specs.Typing.{HasType, AreTyped, least}
 use Rattle.tg_model.specs.Table.{Table, recorded, answer_of, IsTable}
-use Rattle.tg_model.specs.Denotation.{World, value_in, values_in, opened, place_of, others, lower_calls, recursive_value, body_value, world_below, world, den}
+use Rattle.tg_model.specs.Denotation.{World, Recursion, with_calls, value_in, values_in, opened, place_of, others, lower_calls, recursive_value, body_value, world_below, world, den}
 use Rattle.tg_model.specs.TermTyping.{IsTyped, type_of, EachCall, EachCalls, EachCallOf, IsDatatype, datatype_at, constructor_arguments}
 use Rattle.tg_model.specs.WellTyped.{IsLower, AreCases, IsBody, IsWellTyped}
 use Rattle.tg_model.specs.Laws.{IsTypeSound}
@@ -55,12 +55,15 @@ module _ (th : Theory) (tb : Table) (wt : IsWellTyped th) (answered : (vs : List
     abbrev w : World
     w = world_below th tb n
 
+    abbrev r : Recursion
+    r = record { self = suc n; place = place; datatype = d; cases = cases }
+
     abbrev value_at : ℕ → List Value → Value
-    value_at m vs = recursive_value w (suc n) place d cases m vs
+    value_at m vs = recursive_value w r m vs
 
     -- the world of the body at `vs`, where own calls are those below `m`
     abbrev inner : ℕ → List Value → World
-    inner m vs = record { calls = lower_calls (suc n) place (value_at m) w.calls vs; answers = w.answers; first = w.first }
+    inner m vs = with_calls w (lower_calls r (value_at m) w.calls vs)
 
     abbrev Typed_below : ℕ → Type 0
     Typed_below m = (us : List Ty) (vs : List Value) → AreTyped th vs (map (instance us) x.arguments) → size (place_of vs place) < m
@@ -141,7 +144,8 @@ module _ (th : Theory) (tb : Table) (wt : IsWellTyped th) (answered : (vs : List
   body_typed n calls x is (recursive place cases) (d, args, at_place, is_datatype, are_cases) us vs typed =
       let number : option_map_or datatype_of (numbered x.arguments place) 0 ≡ d =
       ap (λ (o : Option Ty). option_map_or datatype_of o 0) at_place ∙ datatype_of_at d args in
-      subst (λ (e : ℕ). HasType th (recursive_value (world_below th tb n) (suc n) place e cases (suc (size (place_of vs place))) vs) (instance us x.answer)) (sym number)
+      subst (λ (e : ℕ). HasType th (recursive_value (world_below th tb n) (record { self = suc n; place = place; datatype = e; cases = cases })
+      (suc (size (place_of vs place))) vs) (instance us x.answer)) (sym number)
       (value_typed n calls x is place cases d args at_place is_datatype are_cases (suc (size (place_of vs place))) us vs typed (omega arith))
 
   abbrev called_at : ℕ → List Value → Option Function → Value

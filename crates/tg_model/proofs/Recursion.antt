@@ -8,43 +8,43 @@ use Rattle.tg_model.specs.Tree.{Tree}
 use Rattle.tg_model.specs.Value.{Value, size, wrong}
 use Rattle.tg_model.specs.Theory.{Theory, Function, numbered}
 use Rattle.tg_model.specs.Table.{Table}
-use Rattle.tg_model.specs.Denotation.{World, place_of, lower_calls, case_value, recursive_value, body_value, world_below}
+use Rattle.tg_model.specs.Denotation.{World, Recursion, with_calls, place_of, lower_calls, case_value, recursive_value, body_value, world_below}
 use Rattle.tg_model.specs.Laws.{recursion, UnfoldsRecursion, UnfoldsCalls}
 
 if_same : (x y z : Value) (b : Bool) → (b ≡ true → x ≡ y) → (if b then x else z) ≡ (if b then y else z)
 if_same x y z true h = h refl
 if_same x y z false h = refl
 
-module _ (w : World) (self place d : ℕ) (cases : List Tree) where
+module _ (w : World) (r : Recursion) where
   -- the world in which a call at `vs` reads its body, its own calls being `own`
   abbrev within : (List Value → Value) → List Value → World
-  within own vs = record { calls = lower_calls self place own w.calls vs; answers = w.answers; first = w.first }
+  within own vs = with_calls w (lower_calls r own w.calls vs)
 
   lower_same : (own own' : List Value → Value) (vs : List Value)
-      → ((ws : List Value) → size (place_of ws place) < size (place_of vs place) → own ws ≡ own' ws)
-      → case_value (within own vs) place d cases vs ≡ case_value (within own' vs) place d cases vs
+      → ((ws : List Value) → size (place_of ws r.place) < size (place_of vs r.place) → own ws ≡ own' ws)
+      → case_value (within own vs) r vs ≡ case_value (within own' vs) r vs
   lower_same own own' vs h =
-      let calls_same : lower_calls self place own w.calls vs ≡ lower_calls self place own' w.calls vs =
-      fun_ext (λ f. fun_ext (λ ws. if_same _ _ _ (nat_eq f self) (λ _.
-      if_same _ _ _ (nat_lt (size (place_of ws place)) (size (place_of vs place))) (λ e. h ws (ltb-true _ _ e))))) in
-      ap (λ (c : ℕ → List Value → Value). case_value (record { calls = c; answers = w.answers; first = w.first }) place d cases vs) calls_same
+      let calls_same : lower_calls r own w.calls vs ≡ lower_calls r own' w.calls vs =
+      fun_ext (λ f. fun_ext (λ ws. if_same _ _ _ (nat_eq f r.self) (λ _.
+      if_same _ _ _ (nat_lt (size (place_of ws r.place)) (size (place_of vs r.place))) (λ e. h ws (ltb-true _ _ e))))) in
+      ap (λ (c : ℕ → List Value → Value). case_value (with_calls w c) r vs) calls_same
 
   -- any two numbers above the size of the argument give one value
-  enough : (n m : ℕ) (vs : List Value) → size (place_of vs place) < n → size (place_of vs place) < m
-      → recursive_value w self place d cases n vs ≡ recursive_value w self place d cases m vs
+  enough : (n m : ℕ) (vs : List Value) → size (place_of vs r.place) < n → size (place_of vs r.place) < m
+      → recursive_value w r n vs ≡ recursive_value w r m vs
   enough zero m vs h k = absurd (omega arith)
   enough (suc n) zero vs h k = absurd (omega arith)
   enough (suc n) (suc m) vs h k =
-      lower_same (recursive_value w self place d cases n) (recursive_value w self place d cases m) vs
+      lower_same (recursive_value w r n) (recursive_value w r m) vs
       (λ ws l. enough n m ws (omega arith) (omega arith))
 
-  pub unfolded : (vs : List Value) → recursion w self place d cases vs ≡ case_value (within (recursion w self place d cases) vs) place d cases vs
+  pub unfolded : (vs : List Value) → recursion w r vs ≡ case_value (within (recursion w r) vs) r vs
   unfolded vs =
-      lower_same (recursive_value w self place d cases (size (place_of vs place))) (recursion w self place d cases) vs
-      (λ ws l. enough (size (place_of vs place)) (suc (size (place_of ws place))) ws l (omega arith))
+      lower_same (recursive_value w r (size (place_of vs r.place))) (recursion w r) vs
+      (λ ws l. enough (size (place_of vs r.place)) (suc (size (place_of ws r.place))) ws l (omega arith))
 
 pub unfolds_recursion : UnfoldsRecursion
-unfolds_recursion w self place d cases vs = unfolded w self place d cases vs
+unfolds_recursion w r vs = unfolded w r vs
 
 if_true : (x y : Value) (b : Bool) → b ≡ true → (if b then x else y) ≡ x
 if_true x y true e = refl

@@ -109,31 +109,46 @@ place_of vs n = unwrap_or (numbered vs n) wrong
 abbrev pub others : {A : Type 0} → List A → ℕ → List A
 others xs n = take (n - 1) xs ++ drop n xs
 
--- The calls that the body of a primitive recursive function may make at the arguments `vs`: its own where the argument
--- at `place` has become smaller, and those of earlier functions. Any other call isn't lower and gives False.
-abbrev pub lower_calls : ℕ → ℕ → (List Value → Value) → (ℕ → List Value → Value) → List Value → ℕ → List Value → Value
-lower_calls self place own earlier vs f ws =
-    if nat_eq f self then (if nat_lt (size (place_of ws place)) (size (place_of vs place)) then own ws else wrong) else earlier f ws
+-- a primitive recursive function: its number, the place of the argument that it recurses on, the number of that argument's
+-- datatype (0 for nat), and one body for each of its constructors
+pub record Recursion : Type 0 where
+  pub self : ℕ
+  pub place : ℕ
+  pub datatype : ℕ
+  pub cases : List Tree
 
--- the body of the case of the constructor that the argument at `place`, of datatype `d`, is made by
-abbrev pub case_value : World → ℕ → ℕ → List Tree → List Value → Value
-case_value w place d cases vs =
+abbrev pub recursion_of : ℕ → Function → ℕ → List Tree → Recursion
+recursion_of self f place cases =
+    record { self = self; place = place; datatype = option_map_or datatype_of (numbered f.arguments place) 0; cases = cases }
+
+-- The calls that the body of a primitive recursive function may make at the arguments `vs`: its own where the argument
+-- at its place has become smaller, and those of earlier functions. Any other call isn't lower and gives False.
+abbrev pub lower_calls : Recursion → (List Value → Value) → (ℕ → List Value → Value) → List Value → ℕ → List Value → Value
+lower_calls r own earlier vs f ws =
+    if nat_eq f r.self then (if nat_lt (size (place_of ws r.place)) (size (place_of vs r.place)) then own ws else wrong) else earlier f ws
+
+-- the same world with other calls of functions
+abbrev pub with_calls : World → (ℕ → List Value → Value) → World
+with_calls w calls = record { calls = calls; answers = w.answers; first = w.first }
+
+-- the body of the case of the constructor that the argument at its place is made by; its variables are the other arguments
+-- and then the constructor's
+abbrev pub case_value : World → Recursion → List Value → Value
+case_value w r vs =
     option_map_or
-    (λ (p : ℕ × List Value). option_map_or (λ t. value_in w (others vs place ++ p.1) [] t) (slice_get cases p.0) wrong)
-    (opened d (w.first d) (place_of vs place)) wrong
+    (λ (p : ℕ × List Value). option_map_or (λ t. value_in w (others vs r.place ++ p.1) [] t) (slice_get r.cases p.0) wrong)
+    (opened r.datatype (w.first r.datatype) (place_of vs r.place)) wrong
 
 -- a primitive recursive function, by recursion on a number that is above the size of the argument at its place
-abbrev pub recursive_value : World → ℕ → ℕ → ℕ → List Tree → ℕ → List Value → Value
-recursive_value w self place d cases zero vs = wrong
-recursive_value w self place d cases (suc n) vs =
-    case_value (record { calls = lower_calls self place (recursive_value w self place d cases n) w.calls vs; answers = w.answers; first = w.first })
-    place d cases vs
+abbrev pub recursive_value : World → Recursion → ℕ → List Value → Value
+recursive_value w r zero vs = wrong
+recursive_value w r (suc n) vs = case_value (with_calls w (lower_calls r (recursive_value w r n) w.calls vs)) r vs
 
 -- the value of function `self` at arguments, `w` having the values of the calls of earlier functions
 abbrev pub body_value : World → ℕ → Function → Body → List Value → Value
 body_value w self f (plain t) vs = value_in w vs [] t
 body_value w self f (recursive place cases) vs =
-    recursive_value w self place (option_map_or datatype_of (numbered f.arguments place) 0) cases (suc (size (place_of vs place))) vs
+    recursive_value w (recursion_of self f place cases) (suc (size (place_of vs place))) vs
 
 -- the world in which the first `n` functions may be called
 abbrev pub world_below : Theory → Table → ℕ → World

@@ -12,19 +12,17 @@ use Rattle.tg_model.specs.Truth.{Holds}
 use Rattle.tg_model.specs.Uses.{uses, uses_in_formula, AgreeWhere}
 use Rattle.tg_model.specs.Walk.{lifted, substituted, instantiated, abstracted, substituted_formula, instantiated_formula, abstracted_formula}
 use Rattle.tg_model.specs.Table.{Table, IsTable, IsListed, Lists, answer_of}
-use Rattle.tg_model.specs.Denotation.{World, place_of, lower_calls, case_value, recursive_value, body_value, world, world_below, den}
+use Rattle.tg_model.specs.Denotation.{World, Recursion, with_calls, place_of, lower_calls, case_value, recursive_value, body_value, world, world_below, den}
 
 -- a primitive recursive function, without the number that bounds the recursion
-abbrev pub recursion : World → ℕ → ℕ → ℕ → List Tree → List Value → Value
-recursion w self place d cases vs = recursive_value w self place d cases (suc (size (place_of vs place))) vs
+abbrev pub recursion : World → Recursion → List Value → Value
+recursion w r vs = recursive_value w r (suc (size (place_of vs r.place))) vs
 
 -- A primitive recursive call is the body of the case of its constructor, in which the function's own calls, where the
 -- argument at its place is smaller, are calls of the same function.
 abbrev pub UnfoldsRecursion : Type 0
-UnfoldsRecursion = (w : World) (self place d : ℕ) (cases : List Tree) (vs : List Value) →
-    recursion w self place d cases vs
-    ≡ case_value (record { calls = lower_calls self place (recursion w self place d cases) w.calls vs; answers = w.answers; first = w.first })
-    place d cases vs
+UnfoldsRecursion = (w : World) (r : Recursion) (vs : List Value)
+    → recursion w r vs ≡ case_value (with_calls w (lower_calls r (recursion w r) w.calls vs)) r vs
 
 -- A call of a declared function is its body, in which the functions before it may be called.
 abbrev pub UnfoldsCalls : Type 0
