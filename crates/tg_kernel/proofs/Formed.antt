@@ -14,7 +14,7 @@ use Rattle.tg_model.proofs.Keeping.{instantiation_keeps_form, abstraction_keeps_
 use Rattle.tg_kernel.specs.Hypotheses.{IsIn, AreSame, NoneUses}
 use Rattle.tg_kernel.specs.Derivation.{Derives, equation, hyp, grow, and_i, and_l, and_r, imp_i, mp, all_i, all_e, ex_i, thyp_e, truth_i, split, sym as symmetry, replace, schema, compute}
 use Rattle.tg_kernel.specs.Laws.{Formed, IsAboutFormed}
-use Rattle.tg_kernel.proofs.Contexts.{well_formed_again, used_in_formula}
+use Rattle.tg_model.proofs.Contexts.{well_formed_again, used_in_formula}
 
 pub in_append : (h : Formula) (xs ys : List Formula) → IsIn h (xs ++ ys) → IsIn h xs ⊎ IsIn h ys
 in_append h [] ys i = inr i

@@ -1,5 +1,4 @@
-pub mod Closed
-pub mod Contexts
 pub mod DerivedRules
 pub mod Formed
+pub mod Replacing
 pub mod TrueOnTables

@@ -23,8 +23,9 @@ use Rattle.tg_kernel.specs.Hypotheses.{IsIn, AreSame, AreWithout}
 use Rattle.tg_kernel.specs.Rows.{Row, imp_true_l, imp_false_l, eq_true_r, eq_true_l, eq_false_r, eq_false_l}
 use Rattle.tg_kernel.specs.Derivation.{Derives, Computes, less_literals, less_equal_literals, hyp, grow, and_i, and_l, and_r, imp_i, mp, all_i, all_e, ex_i, thyp_e, truth_i, split, sym as symmetry, replace, schema, compute}
 use Rattle.tg_kernel.specs.Laws.{IsSound, IsConsistent, IsVariableKept}
-use Rattle.tg_kernel.proofs.Contexts.{used_in_formula}
-use Rattle.tg_kernel.proofs.Closed.{closed_value, replaced_truth}
+use Rattle.tg_model.proofs.Contexts.{used_in_formula}
+use Rattle.tg_model.proofs.ClosedValues.{closed_value}
+use Rattle.tg_kernel.proofs.Replacing.{replaced_truth}
 use Rattle.tg_kernel.proofs.Formed.{formed, in_left, in_right, at_end, elsewhere, unused_in, operands}
 
 -- a context's values that are those of a shorter context, and more

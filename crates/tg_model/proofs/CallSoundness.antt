@@ -8,17 +8,18 @@ use Rattle.std.proofs.lemmas.Bool.Decides.{eqb_tells}
 use Rattle.std.proofs.lemmas.List.{map-append, length-map}
 use Rattle.std.proofs.lemmas.Option.{slice_get-map, slice_get_within}
 use Rattle.tg_model.specs.Types.{Ty, tys}
-use Rattle.tg_model.specs.Tree as tree
-use Rattle.tg_model.specs.Tree.{Tree, Trees, Arms, bound, free, literal, truth, con, call, put, choice, case, bind, op, elements}
+use Rattle.tg_model.specs.Tree.{Tree, Trees}
 use Rattle.tg_model.specs.Value.{Value, values, wrong, size, same_values}
 use Rattle.tg_model.specs.Theory.{Theory, Function, Body, plain, recursive, numbered, first_constructor, instance, datatype_of, IsClosed, AreClosed}
 use Rattle.tg_model.specs.Typing.{HasType, AreTyped, least}
 use Rattle.tg_model.specs.Table.{Table, recorded, answer_of, IsTable}
 use Rattle.tg_model.specs.Denotation.{World, Recursion, with_calls, value_in, values_in, opened, place_of, others, lower_calls, recursive_value, body_value, world_below, world, den}
-use Rattle.tg_model.specs.TermTyping.{IsTyped, type_of, EachCall, EachCalls, EachCallOf, IsDatatype, datatype_at, constructor_arguments}
+use Rattle.tg_model.specs.TermTyping.{IsTyped, type_of, EachCall, IsDatatype, datatype_at, constructor_arguments}
 use Rattle.tg_model.specs.WellTyped.{IsLower, AreCases, IsBody, IsWellTyped}
 use Rattle.tg_model.specs.Laws.{IsTypeSound}
-use Rattle.tg_model.proofs.Places.{get_right}
+use Rattle.tg_model.specs.TypeLaws.{IsTypeSoundAt}
+use Rattle.tg_model.proofs.Places.{get_right, get_within}
+use Rattle.tg_model.proofs.Agreement.{each_call}
 use Rattle.tg_model.proofs.Inhabited.{least_has_type, closed_instance, list_closed_instance, if_true, if_false}
 use Rattle.tg_model.proofs.ValueTyping.{typed_append, typed_length, opens}
 use Rattle.tg_model.proofs.TermSoundness.{sound, datatype_instance, is_datatype_instance, arguments_composed, mapped_back}
@@ -84,7 +85,7 @@ module _ (th : Theory) (tb : Table) (wt : IsWellTyped th) (answered : (vs : List
     allowed_call m typed_below us vs parts k is_opened low start count s c loc f ts y us' (inr (e, (i, within, variable))) is typed =
         let env = others vs place ++ parts in
         let ws = values_in (inner m vs) env loc ts in
-        let part = found parts i (omega (arith, c)) in
+        let part = get_within parts i (omega (arith, c)) in
         let there : slice_get env (start + i) ≡ Some part.0 =
         let swap : start + i ≡ i + length (others vs place) = omega (arith, s) in
         ap (slice_get env) swap ∙ (get_right (others vs place) parts i ∙ part.1) in
@@ -100,11 +101,6 @@ module _ (th : Theory) (tb : Table) (wt : IsWellTyped th) (answered : (vs : List
         (sym (if_true _ (w.calls f ws) (nat_eq f (suc n)) own ∙ if_true (value_at m ws) wrong (nat_lt (size (place_of ws place)) (size (place_of vs place))) (lt-ltb _ _ falls)))
         (subst (λ (z : Function). HasType th (value_at m ws) (instance us' z.answer)) same_function
         (typed_below us' ws (subst (λ (z : Function). AreTyped th ws (map (instance us') z.arguments)) (sym same_function) typed) (omega arith)))
-      where
-        found : (vs : List Value) (i : ℕ) → i < length vs → (v : Value) × (slice_get vs i ≡ Some v)
-        found [] i h = absurd (omega arith)
-        found (v ∷ vs) zero h = (v, refl)
-        found (v ∷ vs) (suc i) h = found vs i (omega arith)
 
     -- what the body's case makes of the constructor that was found
     abbrev case_of : ℕ → List Value → Option (ℕ × List Value) → Value
@@ -178,42 +174,28 @@ module _ (th : Theory) (tb : Table) (wt : IsWellTyped th) (answered : (vs : List
         | inr p ↦ earlier_typed n (calls_typed n) f x us vs (omega (arith, p.1)) p.0 is typed
       ]
 
-  mutual
-    any_call : (t : Tree) → EachCall (λ f ts. Unit {0}) t
-    any_call (bound k) = tt
-    any_call (free n) = tt
-    any_call (literal n) = tt
-    any_call (truth b) = tt
-    any_call (con c ts) = any_calls ts
-    any_call (call f ts) = (tt, any_calls ts)
-    any_call (put ts) = any_calls ts
-    any_call (choice ts) = any_calls ts
-    any_call (case n t bs) = (any_call t, any_call_of bs)
-    any_call (bind t body) = (any_call t, any_call body)
-    any_call (op o ts) = any_calls ts
-
-    any_calls : (ts : Trees) → EachCalls (λ f ts. Unit {0}) ts
-    any_calls tree.none = tt
-    any_calls (tree.more t ts) = (any_call t, any_calls ts)
-
-    any_call_of : (bs : Arms) → EachCallOf (λ f ts. Unit {0}) bs
-    any_call_of tree.end = tt
-    any_call_of (tree.arm n body bs) = (any_call body, any_call_of bs)
-
-  pub term_typed : (vars locs : List Ty) (env loc : List Value) (t : Tree) (u : Ty) → AreClosed th (tys vars) → AreClosed th (tys locs) → IsClosed th u
-      → AreTyped th env vars → AreTyped th loc locs → IsTyped th vars locs t u → HasType th (den th tb env loc t) u
-  term_typed vars locs env loc t u closed_vars closed_locs closed_u typed_env typed_loc (d, h, e) =
-      let here : HasType th (den th tb env loc t) (instance [] (type_of d)) =
-      sound th (world th tb) [] vars env (world_first th tb (length th.functions))
-      (subst (λ (ts : List Ty). AreTyped th env ts) (sym (list_closed_instance th [] vars closed_vars)) typed_env)
-      (program_answers (length th.functions) []) (λ f ts. Unit {0})
+  -- at an instance of type parameters
+  pub typed_at_instance : (us vars locs : List Ty) (env loc : List Value) (t : Tree) (u : Ty) → AreTyped th env (map (instance us) vars)
+      → AreTyped th loc (map (instance us) locs) → IsTyped th vars locs t u → HasType th (den th tb env loc t) (instance us u)
+  typed_at_instance us vars locs env loc t u typed_env typed_loc (d, h, e) =
+      let here : HasType th (den th tb env loc t) (instance us (type_of d)) =
+      sound th (world th tb) us vars env (world_first th tb (length th.functions)) typed_env
+      (program_answers (length th.functions) us) (λ f ts. Unit {0})
       (λ l f ts x vs allowed is args. calls_typed (length th.functions) f x vs (values_in (world th tb) env l ts) (declared f x is) is args)
-      t d locs loc (subst (λ (ts : List Ty). AreTyped th loc ts) (sym (list_closed_instance th [] locs closed_locs)) typed_loc) (any_call t) h in
-      subst (λ (x : Ty). HasType th (den th tb env loc t) x) (ap (instance []) e ∙ closed_instance th [] u closed_u) here
+      t d locs loc typed_loc (each_call (λ f ts. Unit {0}) (λ f ts. tt) t) h in
+      subst (λ (x : Ty). HasType th (den th tb env loc t) (instance us x)) e here
     where
       declared : (f : ℕ) (x : Function) → numbered th.functions f ≡ Some x → f ≤ length th.functions
       declared zero x is = cc is
       declared (suc f) x is = slice_get_within th.functions f x is
+
+  pub term_typed : (vars locs : List Ty) (env loc : List Value) (t : Tree) (u : Ty) → AreClosed th (tys vars) → AreClosed th (tys locs) → IsClosed th u
+      → AreTyped th env vars → AreTyped th loc locs → IsTyped th vars locs t u → HasType th (den th tb env loc t) u
+  term_typed vars locs env loc t u closed_vars closed_locs closed_u typed_env typed_loc typed =
+      subst (λ (x : Ty). HasType th (den th tb env loc t) x) (closed_instance th [] u closed_u)
+      (typed_at_instance [] vars locs env loc t u
+      (subst (λ (ts : List Ty). AreTyped th env ts) (sym (list_closed_instance th [] vars closed_vars)) typed_env)
+      (subst (λ (ts : List Ty). AreTyped th loc ts) (sym (list_closed_instance th [] locs closed_locs)) typed_loc) typed)
 
 -- the answers of a table of declared types
 recorded_typed : (th : Theory) (tb : Table) (vs : List Value) (d : Value) → IsTable th tb → HasType th d th.program.answer
@@ -232,3 +214,7 @@ answers_typed th tb wt table vs = recorded_typed th tb vs (least th th.program.a
 pub soundness : IsTypeSound
 soundness th tb wt table vars locs env loc t u closed_vars closed_locs closed_u typed_env typed_loc typed =
     term_typed th tb wt (answers_typed th tb wt table) vars locs env loc t u closed_vars closed_locs closed_u typed_env typed_loc typed
+
+pub soundness_at_instances : IsTypeSoundAt
+soundness_at_instances th tb wt table us vars locs env loc t u typed_env typed_loc typed =
+    typed_at_instance th tb wt (answers_typed th tb wt table) us vars locs env loc t u typed_env typed_loc typed

@@ -38,7 +38,7 @@ numbered_from e (y ∷ ds) (suc place) x j k is h =
     get_past (map (owned e) y.constructors) (constructors_from (suc e) ds) (length y.constructors + before + j) past
     ∙ (ap (slice_get (constructors_from (suc e) ds)) index ∙ (numbered_from (suc e) ds place x j k is h ∙ ap (λ n. Some (owned n k)) sum))
 
-constructor_number : (th : Theory) (place : ℕ) (x : Datatype) (j : ℕ) (k : Constructor) → slice_get th.datatypes place ≡ Some x → slice_get x.constructors j ≡ Some k
+pub constructor_number : (th : Theory) (place : ℕ) (x : Datatype) (j : ℕ) (k : Constructor) → slice_get th.datatypes place ≡ Some x → slice_get x.constructors j ≡ Some k
     → constructor_at th (first_constructor th.datatypes (suc place) + j) ≡ Some (owned (suc place) k)
 constructor_number th place x j k is h =
     let index : 1 + constructors_before place th.datatypes + j ≡ suc (constructors_before place th.datatypes + j) = omega arith in

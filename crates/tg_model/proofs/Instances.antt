@@ -14,7 +14,7 @@ given_or_nat : (vs : List Ty) (o : Option Ty) → instance vs (unwrap_or o nat) 
 given_or_nat vs None = refl
 given_or_nat vs (Some t) = refl
 
-numbered_map : (f : Ty → Ty) (us : List Ty) (n : ℕ) → option_map f (numbered us n) ≡ numbered (map f us) n
+pub numbered_map : (f : Ty → Ty) (us : List Ty) (n : ℕ) → option_map f (numbered us n) ≡ numbered (map f us) n
 numbered_map f us zero = refl
 numbered_map f us (suc n) = sym (slice_get-map f us n)
 

@@ -1,10 +1,18 @@
+pub mod Agreement
+pub mod CallBodies
 pub mod CallSoundness
+pub mod CallTables
+pub mod ClosedValues
+pub mod Constructors
+pub mod Contexts
 pub mod Freshness
 pub mod Inhabited
 pub mod Instances
 pub mod Keeping
+pub mod InstanceTypings
 pub mod KnownTypings
 pub mod KnownValues
+pub mod Narrowing
 pub mod Numbering
 pub mod Places
 pub mod Recorded
@@ -16,4 +24,5 @@ pub mod TheorySoundness
 pub mod TypedSubstitutions
 pub mod TypedWalks
 pub mod ValueTyping
+pub mod Unmoved
 pub mod Walks

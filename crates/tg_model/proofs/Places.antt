@@ -1,5 +1,5 @@
 -- Places in lists of values.
-use Rattle.std.proofs.Common.{ℕ, zero, suc, ◌≡◌, ◌<◌, ◌≤◌, ◌+◌, ◌-◌, List, [], ◌∷◌, ◌++◌, map, reverse, length, None, refl, ◌∙◌, ap, arith}
+use Rattle.std.proofs.Common.{ℕ, zero, suc, ◌≡◌, ◌<◌, ◌≤◌, ◌+◌, ◌-◌, List, [], ◌∷◌, ◌++◌, map, reverse, length, Some, None, refl, ◌∙◌, ap, arith}
 use Rattle.std.specs.Prelude.{slice_get}
 use mathlib.Core.List.{reverse_aux}
 
@@ -13,6 +13,11 @@ get_right [] ys k = ap (slice_get ys) (let e : k + 0 ≡ k = omega arith in e)
 get_right (x ∷ xs) ys k =
     let e : k + suc (length xs) ≡ suc (k + length xs) = omega arith in
     ap (slice_get (x ∷ (xs ++ ys))) e ∙ get_right xs ys k
+
+pub get_within : {A : Type 0} (xs : List A) (k : ℕ) → k < length xs → (x : A) × (slice_get xs k ≡ Some x)
+get_within [] k h = absurd (omega arith)
+get_within (x ∷ xs) zero h = (x, refl)
+get_within (x ∷ xs) (suc k) h = get_within xs k (omega arith)
 
 -- the same at a place that is known to be past the first list
 pub get_past : {A : Type 0} (xs ys : List A) (k : ℕ) → length xs ≤ k → slice_get (xs ++ ys) k ≡ slice_get ys (k - length xs)

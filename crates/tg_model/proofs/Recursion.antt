@@ -4,7 +4,6 @@ use Rattle.std.specs.Option.{option_map_or}
 use Rattle.std.proofs.Math.Path.{fun_ext}
 use Rattle.std.proofs.lemmas.Bool.{ltb-true}
 use Rattle.std.proofs.lemmas.Bool.Decides.{eqb_tells}
-use Rattle.tg_model.specs.Tree.{Tree}
 use Rattle.tg_model.specs.Value.{Value, size, wrong}
 use Rattle.tg_model.specs.Theory.{Theory, Function, numbered}
 use Rattle.tg_model.specs.Table.{Table}

@@ -20,26 +20,26 @@ pub values-elements : (vs : Values) → values (elements vs) ≡ vs
 values-elements value.none = refl
 values-elements (value.more v vs) = ap (value.more v) (values-elements vs)
 
-elements-tys : (us : List Ty) → types.elements (tys us) ≡ us
+pub elements-tys : (us : List Ty) → types.elements (tys us) ≡ us
 elements-tys [] = refl
 elements-tys (u ∷ us) = ap (λ rest. u ∷ rest) (elements-tys us)
 
 -- the number and the arguments of a datatype's type
-abbrev number_of : Ty → ℕ
+abbrev pub number_of : Ty → ℕ
 number_of nat = 0
 number_of bool = 0
 number_of (parameter n) = 0
 number_of (meta n) = 0
 number_of (applied d ts) = d
 
-abbrev arguments_of : Ty → List Ty
+abbrev pub arguments_of : Ty → List Ty
 arguments_of nat = []
 arguments_of bool = []
 arguments_of (parameter n) = []
 arguments_of (meta n) = []
 arguments_of (applied d ts) = types.elements ts
 
-same_arguments : (d e : ℕ) (us vs : List Ty) → applied d (tys us) ≡ applied e (tys vs) → us ≡ vs
+pub same_arguments : (d e : ℕ) (us vs : List Ty) → applied d (tys us) ≡ applied e (tys vs) → us ≡ vs
 same_arguments d e us vs h = sym (elements-tys us) ∙ (ap arguments_of h ∙ elements-tys vs)
 
 module _ (th : Theory) where

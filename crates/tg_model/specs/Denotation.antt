@@ -117,9 +117,12 @@ pub record Recursion : Type 0 where
   pub datatype : ℕ
   pub cases : List Tree
 
+-- the number of the datatype of the argument at a place
+abbrev pub datatype_of_place : Function → ℕ → ℕ
+datatype_of_place f place = option_map_or datatype_of (numbered f.arguments place) 0
+
 abbrev pub recursion_of : ℕ → Function → ℕ → List Tree → Recursion
-recursion_of self f place cases =
-    record { self = self; place = place; datatype = option_map_or datatype_of (numbered f.arguments place) 0; cases = cases }
+recursion_of self f place cases = record { self = self; place = place; datatype = datatype_of_place f place; cases = cases }
 
 -- The calls that the body of a primitive recursive function may make at the arguments `vs`: its own where the argument
 -- at its place has become smaller, and those of earlier functions. Any other call isn't lower and gives False.

@@ -9,6 +9,10 @@ pub mod Denotation
 pub mod Truth
 pub mod TermTyping
 pub mod WellTyped
+pub mod Calls
+pub mod Accepted
 pub mod Uses
 pub mod Walk
 pub mod Laws
+pub mod CallLaws
+pub mod TypeLaws

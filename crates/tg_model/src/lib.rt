@@ -9,6 +9,10 @@ ghost use Rattle.tg_model.specs.Laws.{SubstitutionKeepsTruth, InstantiationKeeps
 ghost use Rattle.tg_model.specs.Laws.{LiftingKeepsTypes, SubstitutionKeepsTypes, InstantiationKeepsTypes, AbstractionKeepsTypes};
 ghost use Rattle.tg_model.specs.Laws.{SubstitutionKeepsForm, InstantiationKeepsForm, AbstractionKeepsForm};
 ghost use Rattle.tg_model.specs.Laws.{DependsOnUsed, TruthDependsOnUsed};
+ghost use Rattle.tg_model.specs.CallLaws.{DefinitionsAreBodies, RecursionsAreBodies, NeedsNoTable, NeedsOneAnswer};
+ghost use Rattle.tg_model.specs.TypeLaws.{InstanceKeepsTypes, IsTypeSoundAt, TruthHasOneType, TypesDependOnUsed, FormDependsOnUsed};
+ghost use Rattle.tg_model.specs.TypeLaws.{UsedHaveTypes, UsedInFormulasHaveTypes, ContextsGrow, ContextsGrowForm, IsClosedValue};
+ghost use Rattle.tg_model.specs.TypeLaws.{LeastHasType, ValuesAreMade, NumbersArePlaces, CasesAreDeclared};
 
 /// The meaning of calls, as equations: a primitive recursive call is the body of its constructor's case,
 /// and a call of a declared function is its body. The definition counts a number down, and this says
@@ -69,4 +73,52 @@ pub fn substitution_and_form()
 pub fn used_variables()
     ensures values { DependsOnUsed }
     ensures truth { TruthDependsOnUsed }
+{}
+
+/// A call of a declared function has the value of its body, read in the world of all functions.
+pub fn calls_and_bodies()
+    ensures definitions { DefinitionsAreBodies }
+    ensures recursions { RecursionsAreBodies }
+{}
+
+/// A term without a program call has one value on all tables, and one whose program calls all have the
+/// same inputs on all tables with the same answer there.
+pub fn calls_and_tables()
+    ensures no_table { NeedsNoTable }
+    ensures one_answer { NeedsOneAnswer }
+{}
+
+/// A term has each instance of its types, and a value of the instance.
+pub fn instances_of_types()
+    ensures types { InstanceKeepsTypes }
+    ensures values { IsTypeSoundAt }
+{}
+
+/// A truth value outside all binders has no second type.
+pub fn truth_values()
+    ensures { TruthHasOneType }
+{}
+
+/// Types and well-formedness depend on the variables that stand in a term or a formula, which have types
+/// in the context, and a larger context keeps them.
+pub fn typing_contexts()
+    ensures types { TypesDependOnUsed }
+    ensures form { FormDependsOnUsed }
+    ensures used { UsedHaveTypes }
+    ensures used_in_formulas { UsedInFormulasHaveTypes }
+    ensures larger { ContextsGrow }
+    ensures larger_form { ContextsGrowForm }
+    ensures closed { IsClosedValue }
+{}
+
+/// The values of a type, its least value, and the numbers of its constructors.
+pub fn values_of_types()
+    ensures least { LeastHasType }
+    ensures made { ValuesAreMade }
+    ensures numbers { NumbersArePlaces }
+{}
+
+/// A typed term has the branches of each `case` as declared.
+pub fn branches()
+    ensures { CasesAreDeclared }
 {}

@@ -1,6 +1,8 @@
 -- Typing depends on the types of the variables that stand in a term, and on no other: so a context may grow, and lose a
 -- variable that isn't used.
-use Rattle.std.proofs.Common.{ℕ, ◌≡◌, Bool, true, false, ◌||◌, List, [], ◌∷◌, ◌++◌, reverse, Some, refl, sym, ◌∙◌, ap, ◌⊎◌, inl, inr}
+use Rattle.std.proofs.Common.{ℕ, zero, suc, ◌≡◌, ◌+◌, Bool, true, false, ◌||◌, List, [], ◌∷◌, ◌++◌, reverse, length, Some, refl, sym, ◌∙◌, ap, subst, ◌⊎◌, inl, inr, append_assoc}
+use Rattle.std.specs.Prelude.{slice_get}
+use Rattle.std.proofs.lemmas.Option.{slice_get_within}
 use Rattle.std.proofs.lemmas.Bool.{eq-eqb, eqb-true}
 use Rattle.tg_model.specs.Tree as tree
 use Rattle.tg_model.specs.Tree.{Tree, Trees, Arms, bound, free, literal, truth, con, call, put, choice, case, bind, op}
@@ -9,6 +11,11 @@ use Rattle.tg_model.specs.Formula.{Formula, atom, both, implies, all, some, thyp
 use Rattle.tg_model.specs.Theory.{Theory, numbered}
 use Rattle.tg_model.specs.Uses.{uses, use_any, use_branch, uses_in_formula}
 use Rattle.tg_model.specs.TermTyping.{Typing, Typings, ArmTypings, leaf, instanced, compound, branching, binding, none, more, end, arm, constructor_arguments, IsTyping, AreTypings, AreArmTypings, IsTyped, AllTyped, IsWellFormed}
+use Rattle.tg_model.specs.Walk.{as_bound, as_free}
+use Rattle.tg_model.specs.TypeLaws.{TypesDependOnUsed, FormDependsOnUsed, UsedHaveTypes, UsedInFormulasHaveTypes, ContextsGrow, ContextsGrowForm}
+use Rattle.tg_model.proofs.Places.{get_left}
+use Rattle.tg_model.proofs.TypedWalks.{keeps_typed, keeps_well_formed}
+use Rattle.tg_model.proofs.Unmoved.{unmoved, formula_unmoved}
 
 or_left : (a b : Bool) → a ≡ true → (a || b) ≡ true
 or_left true b e = refl
@@ -148,3 +155,48 @@ module _ (th : Theory) (vars : List Ty) (m : ℕ) where
   used_in_formula (thyp f) locs e h = used_in_formula f locs e h
   used_in_formula (tested ts) locs e h = used_in_all_typed ts th.program.inputs locs e h
   used_in_formula (deep k ts) locs e h = used_in_all_typed ts th.program.inputs locs e h
+
+pub types_depend_on_used : TypesDependOnUsed
+types_depend_on_used th vars vars' locs t u a h = is_retyped th vars vars' t u locs a h
+
+pub form_depends_on_used : FormDependsOnUsed
+form_depends_on_used th vars vars' locs f a h = well_formed_again th vars vars' f locs a h
+
+pub used_have_types : UsedHaveTypes
+used_have_types th vars locs t u (d, h, e) n used = used_typed th vars n t d locs used h
+
+pub used_in_formulas_have_types : UsedInFormulasHaveTypes
+used_in_formulas_have_types th vars locs f h n used = used_in_formula th vars n f locs used h
+
+-- further variables, and binders outside, are read by no variable that has a type already
+module _ (th : Theory) (vars more_vars outer : List Ty) where
+  abbrev Within : ℕ → List Ty → List Ty → Type 0
+  Within n locs locs' = locs' ≡ locs ++ outer
+
+  under : (n : ℕ) (locs locs' ts : List Ty) → Within n locs locs' → Within (n + length ts) (reverse ts ++ locs) (reverse ts ++ locs')
+  under n locs locs' ts e = ap (λ l. reverse ts ++ l) e ∙ sym (append_assoc (reverse ts) locs outer)
+
+  bounds : (n : ℕ) (locs locs' : List Ty) (k : ℕ) (t : Ty) → Within n locs locs' → slice_get locs k ≡ Some t
+      → IsTyped th (vars ++ more_vars) locs' (as_bound n k) t
+  bounds n locs locs' k t e h = (leaf t, ap (λ l. slice_get l k) e ∙ (get_left locs outer k (slice_get_within locs k t h) ∙ h), refl)
+
+  frees : (n : ℕ) (locs locs' : List Ty) (m : ℕ) (t : Ty) → Within n locs locs' → numbered vars m ≡ Some t
+      → IsTyped th (vars ++ more_vars) locs' (as_free n m) t
+  frees n locs locs' zero t e h = cc h
+  frees n locs locs' (suc m) t e h = (leaf t, get_left vars more_vars m (slice_get_within vars m t h) ∙ h, refl)
+
+  grown : (locs : List Ty) (t : Tree) (u : Ty) → IsTyped th vars locs t u → IsTyped th (vars ++ more_vars) (locs ++ outer) t u
+  grown locs t u h =
+      subst (λ (x : Tree). IsTyped th (vars ++ more_vars) (locs ++ outer) x u) (unmoved as_bound as_free (λ d k. refl) (λ d n. refl) t 0)
+      (keeps_typed th vars (vars ++ more_vars) as_bound as_free Within under bounds frees t u 0 locs (locs ++ outer) refl h)
+
+  grown_form : (locs : List Ty) (f : Formula) → IsWellFormed th vars locs f → IsWellFormed th (vars ++ more_vars) (locs ++ outer) f
+  grown_form locs f h =
+      subst (λ (x : Formula). IsWellFormed th (vars ++ more_vars) (locs ++ outer) x) (formula_unmoved as_bound as_free (λ d k. refl) (λ d n. refl) f 0)
+      (keeps_well_formed th vars (vars ++ more_vars) as_bound as_free Within under bounds frees f 0 locs (locs ++ outer) refl h)
+
+pub contexts_grow : ContextsGrow
+contexts_grow th vars more_vars locs outer t u h = grown th vars more_vars outer locs t u h
+
+pub contexts_grow_form : ContextsGrowForm
+contexts_grow_form th vars more_vars locs outer f h = grown_form th vars more_vars outer locs f h
