@@ -23,6 +23,8 @@ use Rattle.tg_model.proofs.SameValue.{same_itself}
 --   primrec sort :: nat list => nat list where sort Nil = Nil; sort (Cons x xs) = ins x (sort xs);
 --   primrec sum :: nat => nat where sum 0 = 0; sum (Suc n) = Suc n + sum n;
 --   definition double :: nat => nat where double x = x + x;
+--   primrec len :: 'a list => nat where len Nil = 0; len (Cons x xs) = Suc (len xs);
+--   definition twin :: 'a => ('a, 'a) pair where twin x = Pair x x;
 --   program put :: nat list => nat list;  spec xs . put xs = sort xs;
 abbrev pub list_of : Ty → Ty
 list_of t = applied 1 (tys (t ∷ []))
@@ -92,6 +94,24 @@ sum = record {
 abbrev pub double : Function
 double = record { name = codes "double"; parameters = 0; arguments = nat ∷ []; answer = nat; body = plain (op plus (two (free 1) (free 1))) }
 
+abbrev pub len : Function
+len = record {
+  name = codes "len";
+  parameters = 1;
+  arguments = list_of (parameter 1) ∷ [];
+  answer = nat;
+  body = recursive 1 (literal 0 ∷ op successor (one (call 5 (one (free 2)))) ∷ []);
+}
+
+abbrev pub twin : Function
+twin = record {
+  name = codes "twin";
+  parameters = 1;
+  arguments = parameter 1 ∷ [];
+  answer = pair_of (parameter 1) (parameter 1);
+  body = plain (con 5 (two (free 1) (free 1)));
+}
+
 -- no accepted theory has it: it calls itself at its whole argument
 abbrev pub endless : Function
 endless = record {
@@ -99,74 +119,29 @@ endless = record {
   parameters = 0;
   arguments = nat ∷ [];
   answer = nat;
-  body = recursive 1 (literal 0 ∷ call 5 (one (op successor (one (free 1)))) ∷ []);
+  body = recursive 1 (literal 0 ∷ call 7 (one (op successor (one (free 1)))) ∷ []);
 }
 
 abbrev pub sorting : Theory
 sorting = record {
   name = codes "Sorting";
   datatypes = lists ∷ trees_of_naturals ∷ pairs ∷ [];
-  functions = ins ∷ sort ∷ sum ∷ double ∷ endless ∷ [];
+  functions = ins ∷ sort ∷ sum ∷ double ∷ len ∷ twin ∷ endless ∷ [];
   program = record { name = codes "put"; inputs = list_of nat ∷ []; answer = list_of nat };
   specification = op equality (two (put (one (free 1))) (call 2 (one (free 1))));
 }
 
-abbrev numbers : List ℕ → Value
+abbrev pub numbers : List ℕ → Value
 numbers [] = made 1 (values [])
 numbers (n ∷ ns) = made 2 (values (number n ∷ numbers ns ∷ []))
 
 -- what a program answered: the empty list is sorted, and `2 1` is wrongly left as it is
-abbrev answers : Table
+abbrev pub answers : Table
 answers = record { inputs = numbers [] ∷ []; answer = numbers [] }
     ∷ record { inputs = numbers (2 ∷ 1 ∷ []) ∷ []; answer = numbers (2 ∷ 1 ∷ []) } ∷ []
 
-abbrev value_of : List Value → Tree → Value
+abbrev pub value_of : List Value → Tree → Value
 value_of env t = den sorting answers env [] t
-
--- arithmetic on naturals
-successors : value_of [] (op successor (one (literal 41))) ≡ number 42
-successors = refl
-
-sums : value_of [] (op plus (two (literal 7) (literal 5))) ≡ number 12
-sums = refl
-
-truncated : (value_of [] (op minus (two (literal 5) (literal 7))) ≡ number 0) × (value_of [] (op minus (two (literal 7) (literal 5))) ≡ number 2)
-truncated = (refl, refl)
-
-products : value_of [] (op times (two (literal 7) (literal 5))) ≡ number 35
-products = refl
-
-quotients : (value_of [] (op divide (two (literal 7) (literal 2))) ≡ number 3) × (value_of [] (op divide (two (literal 7) (literal 0))) ≡ number 0)
-quotients = (refl, refl)
-
-remainders : (value_of [] (op modulo (two (literal 7) (literal 2))) ≡ number 1) × (value_of [] (op modulo (two (literal 7) (literal 0))) ≡ number 7)
-remainders = (refl, refl)
-
--- no number wraps
-past_64_bits : value_of [] (op plus (two (literal 18446744073709551615) (literal 1))) ≡ number 18446744073709551616
-past_64_bits = refl
-
--- comparisons
-below : (value_of [] (op less (two (literal 2) (literal 3))) ≡ boolean true) × (value_of [] (op less (two (literal 3) (literal 3))) ≡ boolean false)
-below = (refl, refl)
-
-at_most : (value_of [] (op less_equal (two (literal 3) (literal 3))) ≡ boolean true) × (value_of [] (op less_equal (two (literal 4) (literal 3))) ≡ boolean false)
-at_most = (refl, refl)
-
-equal : (value_of [] (op equality (two (cons (literal 1) nil) (cons (literal 1) nil))) ≡ boolean true)
-    × (value_of [] (op equality (two (cons (literal 1) nil) nil)) ≡ boolean false)
-    × (value_of [] (op equality (two (truth false) (truth false))) ≡ boolean true)
-equal = (refl, refl, refl)
-
--- truth functions
-denied : value_of [] (op negation (one (truth true))) ≡ boolean false
-denied = refl
-
-connected : (value_of [] (op conjunction (two (truth true) (truth false))) ≡ boolean false)
-    × (value_of [] (op disjunction (two (truth true) (truth false))) ≡ boolean true)
-    × (value_of [] (op implication (two (truth true) (truth false))) ≡ boolean false)
-    × (value_of [] (op implication (two (truth false) (truth false))) ≡ boolean true)
-connected = (refl, refl, refl, refl)
 
 -- a use that no typing allows is False
 ill_typed : (value_of [] (op plus (two (truth true) (literal 1))) ≡ wrong) × (value_of [] (op (unnamed 14) tree.none) ≡ wrong)
@@ -222,8 +197,15 @@ inserted = refl
 sorted : value_of (numbers (3 ∷ 1 ∷ 2 ∷ []) ∷ []) (call 2 (one (free 1))) ≡ numbers (1 ∷ 2 ∷ 3 ∷ [])
 sorted = refl
 
+-- polymorphic functions, at two instances each
+polymorphic : (value_of [] (call 5 (one (cons (literal 3) (cons (literal 3) nil)))) ≡ number 2)
+    × (value_of [] (call 5 (one (cons (truth true) nil))) ≡ number 1)
+    × (value_of [] (call 6 (one (literal 3))) ≡ made 5 (values (number 3 ∷ number 3 ∷ [])))
+    × (value_of [] (call 6 (one nil)) ≡ made 5 (values (numbers [] ∷ numbers [] ∷ [])))
+polymorphic = (refl, refl, refl, refl)
+
 -- a call that isn't lower, a later function and a function that isn't declared give False
-not_lower : (value_of [] (call 5 (one (literal 3))) ≡ wrong) × (value_of [] (call 6 (one (literal 3))) ≡ wrong)
+not_lower : (value_of [] (call 7 (one (literal 3))) ≡ wrong) × (value_of [] (call 8 (one (literal 3))) ≡ wrong)
 not_lower = (refl, refl)
 
 -- the program's answer is the recorded one, and the least value of its type where none is
@@ -242,17 +224,6 @@ least_values = (refl, refl, refl, refl, refl)
 first_constructors : (first_constructor sorting.datatypes 1 ≡ 1) × (first_constructor sorting.datatypes 2 ≡ 3) × (first_constructor sorting.datatypes 3 ≡ 5)
 first_constructors = (refl, refl, refl)
 
--- depth: naturals have none, a list of two has 3, a pair of a number and a list of one 3
-depths : (depth (number 7) ≡ 0) × (depth (boolean true) ≡ 0) × (depth (numbers []) ≡ 1) × (depth (numbers (4 ∷ [])) ≡ 2)
-    × (depth (numbers (4 ∷ 5 ∷ [])) ≡ 3) × (depth (made 5 (values (number 0 ∷ numbers (4 ∷ []) ∷ []))) ≡ 3)
-depths = (refl, refl, refl, refl, refl, refl)
-
-shallow : IsShallow 3 (numbers (4 ∷ 5 ∷ []) ∷ number 9 ∷ [])
-shallow = (lit≤ tt, (lit≤ tt, tt))
-
-not_shallow : ¬ (IsShallow 2 (numbers (4 ∷ 5 ∷ []) ∷ []))
-not_shallow h = omega (arith, h.0)
-
 -- value typing, also at a polymorphic constructor, and a closed type
 abbrev pub nil_of : Owned
 nil_of = record { datatype = 1; constructor = record { name = codes "Nil"; arguments = [] } }
@@ -268,24 +239,6 @@ longer = (cons_of, refl, (nat ∷ [], refl, (refl, ((cons_of, refl, (nat ∷ [],
 
 not_of_type : ¬ (HasType sorting (boolean true) nat)
 not_of_type h = cc
-
--- truth of formulas on the table: the specification fails at the list `2 1`, so it holds at no table that lists this answer
-tested_inputs : Holds sorting answers [] [] (tested (one (cons (literal 2) (cons (literal 1) nil))))
-tested_inputs = inr (inl refl)
-
-untested_inputs : ¬ (Holds sorting answers [] [] (tested (one (cons (literal 9) nil))))
-untested_inputs h = elim h [ inl e ↦ cc | inr t ↦ elim t [ inl e ↦ cc | inr n ↦ n ] ]
-
-deep_input : Holds sorting answers [] [] (deep 2 (one (cons (literal 2) (cons (literal 1) nil))))
-deep_input h = omega (arith, h.0)
-
-refuted : ¬ (SatisfiesSpecification sorting answers)
-refuted h = let e : boolean false ≡ boolean true = h (numbers (2 ∷ 1 ∷ []) ∷ []) (inr (inl refl)) in cc
-
--- some natural is below 1, and every one is at most itself
-quantified : Holds sorting answers [] [] (some nat (atom (op less (two (bound 0) (literal 1)))))
-    × Holds sorting answers [] [] (all nat (thyp (atom (op equality (two (bound 0) (bound 0))))))
-quantified = ((number 0, refl, refl), λ v t. ap boolean (same_itself v))
 
 -- the answers are of the declared types, with inputs that differ
 a_table : IsTable sorting answers

@@ -10,6 +10,8 @@ pub mod Inhabited
 pub mod Instances
 pub mod Keeping
 pub mod InstanceTypings
+pub mod KnownFormulas
+pub mod KnownOperators
 pub mod KnownTypings
 pub mod KnownValues
 pub mod Narrowing
