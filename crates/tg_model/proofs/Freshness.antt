@@ -15,11 +15,11 @@ use Rattle.tg_model.specs.Truth.{Holds}
 use Rattle.tg_model.specs.Uses.{uses, use_any, use_branch, uses_in_formula, AgreeWhere}
 use Rattle.tg_model.proofs.Walks.{if_same, by_branch}
 
-or_left : (a b : Bool) → a ≡ true → (a || b) ≡ true
+pub or_left : (a b : Bool) → a ≡ true → (a || b) ≡ true
 or_left true b e = refl
 or_left false b e = cc
 
-or_right : (a b : Bool) → b ≡ true → (a || b) ≡ true
+pub or_right : (a b : Bool) → b ≡ true → (a || b) ≡ true
 or_right true b e = refl
 or_right false b e = e
 

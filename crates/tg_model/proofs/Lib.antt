@@ -10,12 +10,15 @@ pub mod Inhabited
 pub mod Instances
 pub mod Keeping
 pub mod InstanceTypings
+pub mod Inversions
 pub mod KnownFormulas
 pub mod KnownOperators
+pub mod KnownTheories
 pub mod KnownTypings
 pub mod KnownValues
 pub mod Narrowing
 pub mod Numbering
+pub mod OwnCalls
 pub mod Places
 pub mod Recorded
 pub mod Recursion

@@ -92,7 +92,7 @@ module _ (th : Theory) (self : ℕ) (x : Function) (place : ℕ) where
 abbrev pub UsesItself : Theory → ℕ → Function → Body → Type 0
 UsesItself th self x (plain t) = Unit {0}
 UsesItself th self x (recursive place cases) =
-    (d : ℕ) (us : List Ty) → numbered x.arguments place ≡ Some (datatype_at d us) → UseThemselves th self x place cases (constructor_arguments th d us)
+    (d : ℕ) × (us : List Ty) × (numbered x.arguments place ≡ Some (datatype_at d us)) × UseThemselves th self x place cases (constructor_arguments th d us)
 
 -- Its types are made of its own parameters and declared datatypes, its bodies call no program, and it uses itself at its
 -- declared type.
