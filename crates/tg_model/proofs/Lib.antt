@@ -22,6 +22,7 @@ pub mod OwnCalls
 pub mod Places
 pub mod Recorded
 pub mod Recursion
+pub mod RefusedTheories
 pub mod SameValue
 pub mod Substitutions
 pub mod TermSoundness
