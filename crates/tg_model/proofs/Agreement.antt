@@ -7,15 +7,8 @@ use Rattle.tg_model.specs.Value.{Value, made, values, wrong}
 use Rattle.tg_model.specs.Denotation.{World, value_in, values_in, branch_in, opened, operated, chosen}
 use Rattle.tg_model.specs.TermTyping.{EachCall, EachCalls, EachCallOf}
 use Rattle.tg_model.specs.Calls.{has_call, have_call, branches_have_call, EachPut, EachPuts, EachPutOf}
+use Rattle.tg_model.proofs.Booleans.{or_left_false, or_right_false}
 use Rattle.tg_model.proofs.Walks.{if_same, by_branch}
-
-pub or_left_false : (a b : Bool) → (a || b) ≡ false → a ≡ false
-or_left_false true b e = cc
-or_left_false false b e = refl
-
-pub or_right_false : (a b : Bool) → (a || b) ≡ false → b ≡ false
-or_right_false true b e = cc
-or_right_false false b e = e
 
 -- a test that all calls pass
 module _ (P : ℕ → Trees → Type 0) (all : (f : ℕ) (ts : Trees) → P f ts) where

@@ -14,9 +14,9 @@ use Rattle.tg_model.specs.TermTyping.{EachCall}
 use Rattle.tg_model.specs.WellTyped.{IsLower}
 use Rattle.tg_model.specs.Laws.{recursion}
 use Rattle.tg_model.specs.CallLaws.{DefinitionsAreBodies, RecursionsAreBodies}
+use Rattle.tg_model.proofs.Booleans.{if_true, if_false}
 use Rattle.tg_model.proofs.Places.{get_right, get_within}
 use Rattle.tg_model.proofs.Recursion.{unfolded, unfolds_calls}
-use Rattle.tg_model.proofs.Inhabited.{if_true, if_false}
 use Rattle.tg_model.proofs.TheorySoundness.{world_first, world_answers, smaller, listed_value}
 use Rattle.tg_model.proofs.Agreement.{each_put, agree}
 

@@ -18,9 +18,10 @@ use Rattle.tg_model.specs.TermTyping.{IsTyped, type_of, EachCall, IsDatatype, da
 use Rattle.tg_model.specs.WellTyped.{IsLower, AreCases, IsBody, IsWellTyped}
 use Rattle.tg_model.specs.Laws.{IsTypeSound}
 use Rattle.tg_model.specs.TypeLaws.{IsTypeSoundAt}
+use Rattle.tg_model.proofs.Booleans.{if_true, if_false}
 use Rattle.tg_model.proofs.Places.{get_right, get_within}
 use Rattle.tg_model.proofs.Agreement.{each_call}
-use Rattle.tg_model.proofs.Inhabited.{least_has_type, closed_instance, list_closed_instance, if_true, if_false}
+use Rattle.tg_model.proofs.Inhabited.{least_has_type, closed_instance, list_closed_instance}
 use Rattle.tg_model.proofs.ValueTyping.{typed_append, typed_length, opens}
 use Rattle.tg_model.proofs.TermSoundness.{sound, datatype_instance, is_datatype_instance, arguments_composed, mapped_back}
 use Rattle.tg_model.proofs.TheorySoundness.{world_first, world_answers, smaller, case_at, typed_others, typed_place, listed_value}

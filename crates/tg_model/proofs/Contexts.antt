@@ -13,21 +13,10 @@ use Rattle.tg_model.specs.Uses.{uses, use_any, use_branch, uses_in_formula}
 use Rattle.tg_model.specs.TermTyping.{Typing, Typings, ArmTypings, leaf, instanced, compound, branching, binding, none, more, end, arm, constructor_arguments, IsTyping, AreTypings, AreArmTypings, IsTyped, AllTyped, IsWellFormed}
 use Rattle.tg_model.specs.Walk.{as_bound, as_free}
 use Rattle.tg_model.specs.TypeLaws.{TypesDependOnUsed, FormDependsOnUsed, UsedHaveTypes, UsedInFormulasHaveTypes, ContextsGrow, ContextsGrowForm}
+use Rattle.tg_model.proofs.Booleans.{or_left, or_right, or_cases}
 use Rattle.tg_model.proofs.Places.{get_left}
 use Rattle.tg_model.proofs.TypedWalks.{keeps_typed, keeps_well_formed}
 use Rattle.tg_model.proofs.Unmoved.{unmoved, formula_unmoved}
-
-or_left : (a b : Bool) → a ≡ true → (a || b) ≡ true
-or_left true b e = refl
-or_left false b e = cc
-
-or_right : (a b : Bool) → b ≡ true → (a || b) ≡ true
-or_right true b e = refl
-or_right false b e = e
-
-or_cases : (a b : Bool) → (a || b) ≡ true → (a ≡ true) ⊎ (b ≡ true)
-or_cases true b e = inl refl
-or_cases false b e = inr e
 
 module _ (th : Theory) (vars vars' : List Ty) where
   abbrev Agree : (ℕ → Bool) → Type 0

@@ -13,15 +13,8 @@ use Rattle.tg_model.specs.Table.{Table, IsListed}
 use Rattle.tg_model.specs.Denotation.{World, value_in, values_in, branch_in, opened, operated, chosen, world}
 use Rattle.tg_model.specs.Truth.{Holds}
 use Rattle.tg_model.specs.Uses.{uses, use_any, use_branch, uses_in_formula, AgreeWhere}
+use Rattle.tg_model.proofs.Booleans.{or_left, or_right}
 use Rattle.tg_model.proofs.Walks.{if_same, by_branch}
-
-pub or_left : (a b : Bool) → a ≡ true → (a || b) ≡ true
-or_left true b e = refl
-or_left false b e = cc
-
-pub or_right : (a b : Bool) → b ≡ true → (a || b) ≡ true
-or_right true b e = refl
-or_right false b e = e
 
 module _ (w : World) (env env' : List Value) where
   abbrev Agrees : (ℕ → Bool) → Type 0

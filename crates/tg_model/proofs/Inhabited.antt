@@ -12,6 +12,7 @@ use Rattle.tg_model.specs.Value.{Value, made, values, wrong}
 use Rattle.tg_model.specs.Theory.{Theory, Datatype, Constructor, Owned, numbered, constructors_from, constructor_at, constructors_before, first_constructor, instance, instances, datatype_of, IsClosed, AreClosed}
 use Rattle.tg_model.specs.Typing.{HasType, AreTyped, base_constructor, least_at, all_least, least_below, least}
 use Rattle.tg_model.specs.WellTyped.{IsBefore, AreBefore, IsWellTyped}
+use Rattle.tg_model.proofs.Booleans.{if_true, if_false}
 use Rattle.tg_model.proofs.Places.{get_left, get_past}
 
 abbrev owned : ℕ → Constructor → Owned
@@ -126,14 +127,6 @@ mutual
 pub list_closed_instance : (th : Theory) (us ts : List Ty) → AreClosed th (tys ts) → map (instance us) ts ≡ ts
 list_closed_instance th us [] h = refl
 list_closed_instance th us (t ∷ ts) h = λ i. closed_instance th us t h.0 i ∷ list_closed_instance th us ts h.1 i
-
-pub if_true : (x y : Value) (b : Bool) → b ≡ true → (if b then x else y) ≡ x
-if_true x y true e = refl
-if_true x y false e = cc
-
-pub if_false : (x y : Value) (b : Bool) → b ≡ false → (if b then x else y) ≡ y
-if_false x y true e = cc
-if_false x y false e = refl
 
 module _ (th : Theory) (wt : IsWellTyped th) where
   abbrev below : ℕ → ℕ → List Value → Value

@@ -9,9 +9,8 @@ use Rattle.tg_model.specs.TermTyping.{Typing, Typings, leaf, instanced, compound
 use Rattle.tg_model.specs.WellTyped.{IsWellTyped, IsInhabited, IsBody}
 use Rattle.tg_model.specs.Accepted.{IsAccepted, IsAmong, AreDistinct, AreConstructors, IsFunction, type_names, value_names}
 use Rattle.std.proofs.lemmas.Bool.{eq-eqb}
-use Rattle.tg_model.proofs.Freshness.{or_left, or_right}
+use Rattle.tg_model.proofs.Booleans.{or_left, or_right, and_left, and_right, and_both}
 use Rattle.tg_model.proofs.OwnCalls.{uses_itself}
-use Rattle.tg_model.proofs.SameValue.{and_left, and_right, and_both}
 use Rattle.tg_model.proofs.Inversions.{truth_type, literal_type, unary, binary}
 use Rattle.tg_model.proofs.KnownValues.{list_of, pair_of, nil, cons, sorting, nil_of, cons_of, lists, trees_of_naturals, pairs, ins, sort, sum, double, len, twin, endless}
 

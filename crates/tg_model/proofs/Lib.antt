@@ -1,4 +1,5 @@
 pub mod Agreement
+pub mod Booleans
 pub mod CallBodies
 pub mod CallSoundness
 pub mod CallTables

@@ -9,6 +9,7 @@ use Rattle.tg_model.specs.Theory.{Theory, Function, numbered}
 use Rattle.tg_model.specs.Table.{Table}
 use Rattle.tg_model.specs.Denotation.{World, Recursion, with_calls, place_of, lower_calls, case_value, recursive_value, body_value, world_below}
 use Rattle.tg_model.specs.Laws.{recursion, UnfoldsRecursion, UnfoldsCalls}
+use Rattle.tg_model.proofs.Booleans.{if_true, if_false}
 
 if_same : (x y z : Value) (b : Bool) → (b ≡ true → x ≡ y) → (if b then x else z) ≡ (if b then y else z)
 if_same x y z true h = h refl
@@ -44,14 +45,6 @@ module _ (w : World) (r : Recursion) where
 
 pub unfolds_recursion : UnfoldsRecursion
 unfolds_recursion w r vs = unfolded w r vs
-
-if_true : (x y : Value) (b : Bool) → b ≡ true → (if b then x else y) ≡ x
-if_true x y true e = refl
-if_true x y false e = cc
-
-if_false : (x y : Value) (b : Bool) → b ≡ false → (if b then x else y) ≡ y
-if_false x y true e = cc
-if_false x y false e = refl
 
 module _ (th : Theory) (tb : Table) (n : ℕ) (x : Function) (vs : List Value) (declared : numbered th.functions (suc n) ≡ Some x) where
   abbrev meant : Value

@@ -4,18 +4,7 @@ use Rattle.std.proofs.lemmas.Bool.{eqb-true, eq-eqb}
 use Rattle.tg_model.specs.Value.{Value, Values, number, boolean, made, same_value, same_values, same_truth}
 use Rattle.tg_model.specs.Value as value
 use Rattle.tg_model.specs.Laws.{DecidesEquality}
-
-pub and_left : (a b : Bool) → (a && b) ≡ true → a ≡ true
-and_left true b e = refl
-and_left false b e = e
-
-pub and_right : (a b : Bool) → (a && b) ≡ true → b ≡ true
-and_right true b e = e
-and_right false b e = cc
-
-pub and_both : (a b : Bool) → a ≡ true → b ≡ true → (a && b) ≡ true
-and_both true b p q = q
-and_both false b p q = p
+use Rattle.tg_model.proofs.Booleans.{and_left, and_right, and_both}
 
 truths : (a b : Bool) → same_truth a b ≡ true → a ≡ b
 truths true true e = refl

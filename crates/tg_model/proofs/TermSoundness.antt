@@ -13,6 +13,7 @@ use Rattle.tg_model.specs.Theory.{Theory, Datatype, Constructor, Function, numbe
 use Rattle.tg_model.specs.Typing.{HasType, AreTyped}
 use Rattle.tg_model.specs.Denotation.{World, value_in, values_in, branch_in, opened}
 use Rattle.tg_model.specs.TermTyping.{Typing, Typings, ArmTypings, leaf, instanced, compound, branching, binding, none, more, end, arm, type_of, types_of, IsTyping, AreTypings, AreArmTypings, IsDatatype, datatype_at, constructor_arguments, EachCall, EachCalls, EachCallOf}
+use Rattle.tg_model.proofs.Booleans.{if_true}
 use Rattle.tg_model.proofs.Places.{map-reverse}
 use Rattle.tg_model.proofs.Instances.{instances_tys, composed, list_composed}
 use Rattle.tg_model.proofs.ValueTyping.{typed_at, typed_append, typed_reverse, typed_length, chosen_typed, operated_typed, opens}
@@ -44,10 +45,6 @@ arguments_composed th us (suc n) ts = arguments_of_option us ts (slice_get th.da
 pub mapped_back : (f : List Ty → List Ty) (o : Option (List Ty)) (args : List Ty) → option_map f o ≡ Some args → (ts : List Ty) × (o ≡ Some ts) × (f ts ≡ args)
 mapped_back f None args e = cc
 mapped_back f (Some ts) args e = (ts, refl, cc)
-
-if_true : (x y : Value) (b : Bool) → b ≡ true → (if b then x else y) ≡ x
-if_true x y true e = refl
-if_true x y false e = cc
 
 -- `us` are the closed types that stand for type parameters, `vars` the types of the free variables, `env` their values.
 -- `Allowed` says which calls the term makes, and `calls` that these give values of the functions' types.
