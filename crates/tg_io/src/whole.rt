@@ -54,8 +54,8 @@ pub fn read_all<S: Source>(alloc: Global, src: &mut S, max: usize) -> Result<Vec
     ensures calls { ReadsInTurns S.gives vec_len max src.old result src.new }
 {
     let mut bytes = Vec::new(alloc);
+    let mut buf = [0; CHUNK];
     while bytes.len() <= max {
-        let mut buf = [0; CHUNK];
         let wanted = CHUNK.min(max + 1 - bytes.len());
         if bytes.reserve(wanted).is_err() {
             return Err(ReadErr::Memory);

@@ -8,6 +8,7 @@ abbrev pub invariant-loop-buf : goal.invariant-loop-buf
 invariant-loop-buf g l = record {
   given : Consumes (g.S.Source.left l.fn.src) (g.S.Source.left l.src) l.bytes.items;
   within : length l.bytes.items ≤ l.max + 1;
+  buffer : length l.buf ≡ 4096;
   kept : g.S.Source.faults l.src ≡ g.S.Source.faults l.fn.src;
   turns : Turns g.S.Source.gives (IsBuffer (l.max + 1)) l.fn.src (vec_len l.bytes) l.src;
 }
