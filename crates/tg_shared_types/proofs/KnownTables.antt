@@ -5,7 +5,7 @@ use Rattle.tg_types.specs.Substitutions.{Assignment}
 use Rattle.tg_shared_types.specs.declared.nodes.Node.{Node}
 use Rattle.tg_shared_types.specs.declared.nodes.Node.TheVariants.{Open, Nat, App}
 use Rattle.tg_shared_types.specs.Nodes.{Says, node_at, Fits}
-use Rattle.tg_shared_types.specs.Marks.{HasNone, HasOne, HasSeveral}
+use Rattle.tg_shared_types.specs.Settled.{HasNone, HasOne, HasSeveral}
 use Rattle.tg_shared_types.proofs.Sizes.{size}
 
 -- an assignment fits a table of one node

@@ -9,7 +9,8 @@ use Rattle.tg_types.specs.Substitutions.{Assignment}
 use Rattle.tg_shared_types.specs.declared.nodes.Node.{Node}
 use Rattle.tg_shared_types.specs.declared.nodes.Node.TheVariants.{Open, Link, Nat, Bool, Param, App}
 use Rattle.tg_shared_types.specs.Nodes.{types_of, Says, node_at, Fits, AreBelow, Names, IsNodeTable}
-use Rattle.tg_shared_types.specs.Marks.{HasOne, HasSeveral, is_marked, all_marked, is_ready, Built, AgreeAtOpen, AreMarks, IsStuck, unmarked}
+use Rattle.tg_shared_types.specs.Marks.{is_marked, all_marked, is_ready, Built, AgreeAtOpen, AreMarks, IsStuck, unmarked}
+use Rattle.tg_shared_types.specs.Settled.{HasOne, HasSeveral}
 use Rattle.tg_shared_types.proofs.Sizes.{size, sizes}
 use Rattle.tg_shared_types.proofs.PartLaws.{ready_parts, says_same, value, says_value, says_alike}
 

@@ -4,7 +4,8 @@ use Rattle.std.specs.Prelude.{Result, Ok, Err, IfOk}
 use Rattle.tg_types.specs.Substitutions.{Assignment}
 use Rattle.tg_shared_types.specs.declared.nodes.Node.{Node}
 use Rattle.tg_shared_types.specs.Nodes.{Fits, IsNodeTable, SameFits, HasTypeOf}
-use Rattle.tg_shared_types.specs.Pairs.{AreSame, PairsBelow, Carries, NoneFits, CarriesOr, IsUnion}
+use Rattle.tg_shared_types.specs.Pairs.{AreSame, PairsBelow, Carries, NoneFits, CarriesOr}
+use Rattle.tg_shared_types.specs.Uniting.{IsUnion}
 use Rattle.tg_shared_types.proofs.JoinLaws.{same_append, append_same, append_below}
 
 -- one pair for another with the same types

@@ -1,36 +1,10 @@
--- Nodes whose types are found, and how many assignments fit a table.
+-- The loop of settling: nodes whose types are found, and how much is still to be visited.
 use Rattle.std.specs.Prelude.{ℕ, suc, ◌+◌, ◌≡◌, ◌<◌, Bool, true, false, List, [], ◌∷◌, length, if◌then◌else◌}
 use Rattle.std.proofs.Math.ListN.{get_or}
 use Rattle.tg_types.specs.Substitutions.{Assignment}
 use Rattle.tg_shared_types.specs.declared.nodes.Node.{Node}
 use Rattle.tg_shared_types.specs.declared.nodes.Node.TheVariants.{Open, Link, App}
-use Rattle.tg_shared_types.specs.declared.settling.Solutions.{Solutions}
-use Rattle.tg_shared_types.specs.declared.settling.Solutions.TheVariants.{Zero, One, Several}
 use Rattle.tg_shared_types.specs.Nodes.{Says, Fits, node_at}
-
--- an assignment fits, and each that fits gives the nodes the same types
-pub record HasOne (ns : List Node) : Type 0 where
-  pub types : Assignment
-  pub fits : Fits types ns
-  pub only : (ρ : Assignment) → Fits ρ ns → (i : ℕ) → i < length ns → ρ i ≡ types i
-
--- two assignments fit that give some node two types
-pub record HasSeveral (ns : List Node) : Type 0 where
-  pub types : Assignment
-  pub others : Assignment
-  pub fits : Fits types ns
-  pub others_fit : Fits others ns
-  pub node : ℕ
-  pub inside : node < length ns
-  pub differ : ¬ (types node ≡ others node)
-
-abbrev pub HasNone : List Node → Type 0
-HasNone ns = (ρ : Assignment) → ¬ (Fits ρ ns)
-
-abbrev pub Settles : List Node → Solutions → Type 0
-Settles ns Zero = HasNone ns
-Settles ns One = HasOne ns
-Settles ns Several = HasSeveral ns
 
 abbrev pub is_marked : List Bool → ℕ → Bool
 is_marked ys k = get_or ys k false

@@ -1,4 +1,4 @@
--- Pairs of nodes that are to have one type.
+-- The loop of uniting: pairs of nodes that are still to have one type.
 use Rattle.std.specs.Prelude.{ℕ, suc, ◌+◌, ◌≡◌, ◌<◌, ◌↔◌, Bool as Truth, true, false, List, [], ◌∷◌, length, nat_eq, if◌then◌else◌}
 use Rattle.tg_types.specs.Substitutions.{Assignment}
 use Rattle.tg_shared_types.specs.declared.nodes.Node.{Node}
@@ -52,15 +52,6 @@ NoneFits ns ps = (ρ : Assignment) → Fits ρ ns → ¬ (AreSame ρ ps)
 abbrev pub CarriesOr : Truth → List Node → List (ℕ × ℕ) → List Node → List (ℕ × ℕ) → Type 0
 CarriesOr true old asked new left = Carries old asked new left
 CarriesOr false old asked new left = NoneFits old asked
-
--- the two nodes united: an assignment fits the new table exactly where it fits the old one and gives both nodes one type
-pub record IsUnion (old : List Node) (left right : ℕ) (new : List Node) : Type 0 where
-  pub long : length new ≡ length old
-  pub same : (ρ : Assignment) → Fits ρ new ↔ (Fits ρ old × (ρ left ≡ ρ right))
-
-abbrev pub Unites : Truth → List Node → ℕ → ℕ → List Node → Type 0
-Unites true old left right new = IsUnion old left right new
-Unites false old left right new = (ρ : Assignment) → Fits ρ old → ¬ (ρ left ≡ ρ right)
 
 -- how much may still be united at a node, and in a table
 abbrev pub weight : Node → ℕ

@@ -2,7 +2,8 @@
 ghost use Rattle.std.specs.Prelude.{◌≡◌, ◌≢◌, ℕ, ◌<◌, ◌≤◌, true, false, length, IfOk, IfSome, IfNone};
 ghost use Rattle.std.specs.Bool.{OnFalse};
 ghost use Rattle.tg_shared_types.specs.Nodes.{node_at, IsNodeTable};
-ghost use Rattle.tg_shared_types.specs.Marks.{is_marked, all_marked, is_ready, AreMarks, IsStuck, Settles, unmarked, with_turn};
+ghost use Rattle.tg_shared_types.specs.Marks.{is_marked, all_marked, is_ready, AreMarks, IsStuck, unmarked, with_turn};
+ghost use Rattle.tg_shared_types.specs.Settled.{Settles};
 ghost use Rattle.tg_shared_types.specs.declared.nodes.Node.TheVariants.{Open};
 
 use super::nodes::Node;

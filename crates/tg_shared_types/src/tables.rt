@@ -3,8 +3,8 @@ ghost use Rattle.std.specs.Prelude.{◌≡◌, ◌<◌, ◌++◌, [], ◌∷◌,
 ghost use Rattle.tg_types.specs.Types.{ty};
 ghost use Rattle.tg_shared_types.specs.Growth.{IsDeclared, Plants};
 ghost use Rattle.tg_shared_types.specs.Nodes.{node_at, AreBelow, Names, IsRoot, SameFits, HasTypeOf};
-ghost use Rattle.tg_shared_types.specs.Pairs.{Unites};
-ghost use Rattle.tg_shared_types.specs.Marks.{Settles};
+ghost use Rattle.tg_shared_types.specs.Uniting.{Unites};
+ghost use Rattle.tg_shared_types.specs.Settled.{Settles};
 
 use super::finding::find;
 use super::nodes::Node;

@@ -1,7 +1,8 @@
 //! Union-find over a list of pairs of nodes that are to have one type.
 ghost use Rattle.std.specs.Prelude.{◌≡◌, ◌<◌, ◌≤◌, ◌+◌, ◌++◌, [], ◌∷◌, length, IfOk};
 ghost use Rattle.tg_shared_types.specs.Nodes.{IsNodeTable};
-ghost use Rattle.tg_shared_types.specs.Pairs.{weights, CarriesOr, PairsBelow, Unites};
+ghost use Rattle.tg_shared_types.specs.Pairs.{weights, CarriesOr, PairsBelow};
+ghost use Rattle.tg_shared_types.specs.Uniting.{Unites};
 
 use super::finding::find;
 use super::joining::join;
