@@ -1,0 +1,5 @@
+pub mod Aligned
+pub mod Again
+pub mod CoreTypes
+pub mod KnownTerms
+pub mod Widening

@@ -1,0 +1,4 @@
+pub mod Resolved
+pub mod ResolvedTyping
+pub mod Core
+pub mod Laws

@@ -1,0 +1,22 @@
+//! What an accepted text is and what it means. So far: terms in which each word is looked up, their typings,
+//! and the core terms that they stand for. `specs/` has the definitions; the functions here have no code,
+//! and their contracts are the laws.
+#![tactic(auto)]
+
+ghost use Rattle.tg_accept.specs.Laws.{CoreIsTyped, ResolvedAgain, TypedAgain, TypingsWiden};
+
+/// The core term of a resolved term has its type, in the theory that has the declared function too.
+pub fn core_terms()
+    ensures { CoreIsTyped }
+{}
+
+/// A core term is a resolved term with the same typings, where each `case` has its branches as declared.
+pub fn core_terms_as_resolved()
+    ensures resolved { ResolvedAgain }
+    ensures typed { TypedAgain }
+{}
+
+/// Later declarations keep typings.
+pub fn later_declarations()
+    ensures { TypingsWiden }
+{}
