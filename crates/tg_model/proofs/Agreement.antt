@@ -1,5 +1,5 @@
 -- Two worlds that agree on the calls that a term makes give the term one value.
-use Rattle.std.proofs.Common.{ℕ, zero, suc, ◌≡◌, Bool, true, false, ◌||◌, List, ◌∷◌, ◌++◌, reverse, length, Option, refl, ◌∙◌, ap, nat_eq}
+use Rattle.std.proofs.Common.{ℕ, zero, suc, ◌≡◌, true, false, List, ◌∷◌, ◌++◌, reverse, length, Option, refl, ◌∙◌, ap, nat_eq}
 use Rattle.std.specs.Option.{option_map_or}
 use Rattle.tg_model.specs.Tree as tree
 use Rattle.tg_model.specs.Tree.{Tree, Trees, Arms, bound, free, literal, truth, con, call, put, choice, case, bind, op}

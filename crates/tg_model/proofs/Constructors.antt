@@ -73,9 +73,12 @@ module _ (th : Theory) (vars : List Ty) where
   sizes_declared : (n : ℕ) (us : List Ty) (ns : List ℕ) → IsDatatype th n us → ns ≡ map (λ (ts : List Ty). length ts) (constructor_arguments th n us)
       → AreBranchSizes th n ns
   sizes_declared zero us ns is e = e
-  sizes_declared (suc d) us ns (x, is, count) e =
-      (x, is, e ∙ (ap (λ o. map (λ (ts : List Ty). length ts) (option_map_or (λ (y : Datatype). map (λ (k : Constructor). map (instance us) k.arguments) y.constructors) o [])) is
-      ∙ argument_sizes us x.constructors))
+  sizes_declared (suc d) us ns (x, is, count) e = (
+    x,
+    is,
+    e ∙ (ap (λ o. map (λ (ts : List Ty). length ts) (option_map_or (λ (y : Datatype). map (λ (k : Constructor). map (instance us) k.arguments) y.constructors) o [])) is
+        ∙ argument_sizes us x.constructors),
+  )
 
   mutual
     declared : (t : Tree) (d : Typing) (locs : List Ty) → IsTyping th vars locs t d → EachCase th t
@@ -89,9 +92,11 @@ module _ (th : Theory) (vars : List Ty) where
     declared (choice ts) (compound t ds) locs (args, each) = all_declared ts ds locs each
     declared (op o ts) (compound t ds) locs (is, each) = all_declared ts ds locs each
     declared (bind t body) (binding u v d e) locs (p, q, b, s) = (declared t d locs p, declared body e (u ∷ locs) b)
-    declared (case n t bs) (branching us u d arms) locs (is, e, p, each) =
-        (sizes_declared n us (branch_sizes bs) is (sizes_of bs (constructor_arguments th n us) arms locs u each), declared t d locs p,
-        arms_declared bs (constructor_arguments th n us) arms locs u each)
+    declared (case n t bs) (branching us u d arms) locs (is, e, p, each) = (
+      sizes_declared n us (branch_sizes bs) is (sizes_of bs (constructor_arguments th n us) arms locs u each),
+      declared t d locs p,
+      arms_declared bs (constructor_arguments th n us) arms locs u each,
+    )
     declared t d locs h = absurd h
 
     all_declared : (ts : Trees) (ds : Typings) (locs : List Ty) → AreTypings th vars locs ts ds → EachCases th ts

@@ -1,5 +1,5 @@
 -- A value depends on the variables that stand in the term, and on no other.
-use Rattle.std.proofs.Common.{ℕ, zero, suc, ◌≡◌, Bool, true, false, ◌||◌, List, ◌∷◌, ◌++◌, reverse, length, Option, refl, ◌∙◌, ap, nat_eq}
+use Rattle.std.proofs.Common.{ℕ, zero, suc, ◌≡◌, Bool, true, List, ◌∷◌, ◌++◌, reverse, length, Option, refl, ◌∙◌, ap, nat_eq}
 use Rattle.std.specs.Prelude.{unwrap_or}
 use Rattle.std.specs.Option.{option_map_or}
 use Rattle.std.proofs.lemmas.Bool.{eq-eqb}

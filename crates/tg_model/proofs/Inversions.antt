@@ -1,5 +1,5 @@
 -- What a typing of a term tells of the typings of its parts.
-use Rattle.std.proofs.Common.{ℕ, ◌≡◌, Bool, List, [], ◌∷◌, refl}
+use Rattle.std.proofs.Common.{ℕ, ◌≡◌, Bool, List, [], ◌∷◌}
 use Rattle.tg_model.specs.Tree as tree
 use Rattle.tg_model.specs.Tree.{Tree, literal, truth, choice, op, one, two, Operator}
 use Rattle.tg_model.specs.Types.{Ty, nat, bool}

@@ -1,6 +1,6 @@
 -- The operators at values that are known by hand: whole truth tables, comparisons on each side, and arithmetic on naturals.
-use Rattle.std.proofs.Common.{ℕ, ◌≡◌, Bool, true, false, refl, [], ◌∷◌}
-use Rattle.tg_model.specs.Tree.{Tree, literal, truth, op, one, two, Operator, successor, negation, conjunction, disjunction, implication, equality, less, less_equal, plus, minus, times, divide, modulo}
+use Rattle.std.proofs.Common.{ℕ, ◌≡◌, Bool, true, false, refl, []}
+use Rattle.tg_model.specs.Tree.{literal, truth, op, one, two, Operator, successor, negation, conjunction, disjunction, implication, equality, less, less_equal, plus, minus, times, divide, modulo}
 use Rattle.tg_model.specs.Value.{Value, number, boolean}
 use Rattle.tg_model.proofs.KnownValues.{value_of, nil, cons}
 

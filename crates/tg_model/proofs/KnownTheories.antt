@@ -1,18 +1,16 @@
 -- A theory that is known to be accepted, and so well typed; and theories that aren't, one for each condition.
-use Rattle.std.proofs.Common.{ℕ, zero, suc, ◌≡◌, ◌<◌, ◌≤◌, ◌⊎◌, true, false, refl, sym, ◌∙◌, ap, Bool, not, ◌&&◌, ◌||◌, nat_eq, List, [], ◌∷◌, Some, None, inl, inr, lit<, lit≤, subst, arith}
+use Rattle.std.proofs.Common.{ℕ, zero, suc, ◌≡◌, ◌<◌, true, false, refl, sym, ◌∙◌, ap, Bool, not, ◌&&◌, ◌||◌, nat_eq, List, [], ◌∷◌, Some, None, inl, inr, lit<, lit≤, subst}
 use Rattle.std.specs.Prelude.{codes, slice_get}
-use Rattle.tg_model.specs.Tree as tree
-use Rattle.tg_model.specs.Tree.{Tree, bound, free, literal, truth, con, call, put, choice, op, one, two, trees, equality, plus, successor}
+use Rattle.tg_model.specs.Tree.{Tree, free, call, op, one, two, successor}
 use Rattle.tg_model.specs.Types.{Ty, nat, bool, parameter, applied, tys}
-use Rattle.tg_model.specs.Theory.{Theory, Datatype, Constructor, Function, Program, plain, recursive, numbered}
+use Rattle.tg_model.specs.Theory.{Theory, Datatype, Function, numbered}
 use Rattle.tg_model.specs.TermTyping.{Typing, Typings, leaf, instanced, compound, none, more, IsTyping, type_of}
 use Rattle.tg_model.specs.WellTyped.{IsWellTyped, IsInhabited, IsBody}
 use Rattle.tg_model.specs.Accepted.{IsAccepted, IsAmong, AreDistinct, AreConstructors, IsFunction, type_names, value_names}
 use Rattle.std.proofs.lemmas.Bool.{eq-eqb}
 use Rattle.tg_model.proofs.Booleans.{or_left, or_right, and_left, and_right, and_both}
 use Rattle.tg_model.proofs.OwnCalls.{uses_itself}
-use Rattle.tg_model.proofs.Inversions.{truth_type, literal_type, unary, binary}
-use Rattle.tg_model.proofs.KnownValues.{list_of, pair_of, nil, cons, sorting, nil_of, cons_of, lists, trees_of_naturals, pairs, ins, sort, sum, double, len, twin, endless}
+use Rattle.tg_model.proofs.KnownValues.{list_of, pair_of, nil, cons, sorting, nil_of, cons_of, lists, trees_of_naturals, pairs, ins, sort, sum, double, len, twin}
 
 -- The theory of insertion sort is well typed: its datatypes are inhabited, its bodies_typed are typed, and each call that a body
 -- makes is lower. So type soundness speaks of it.

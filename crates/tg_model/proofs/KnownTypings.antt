@@ -1,10 +1,9 @@
 -- Typings that are known by hand, in a theory of lists: of each operator and kind of term, and terms that have none.
-use Rattle.std.proofs.Common.{ℕ, ◌≡◌, true, false, refl, sym, ◌∙◌, List, [], ◌∷◌}
+use Rattle.std.proofs.Common.{◌≡◌, true, false, refl, sym, ◌∙◌, List, [], ◌∷◌}
 use Rattle.tg_model.specs.Tree as tree
 use Rattle.tg_model.specs.Tree.{Tree, bound, free, literal, truth, con, call, put, case, bind, op, one, two, trees, choice, Operator, successor, negation, conjunction, disjunction, implication, equality, less, less_equal, plus, minus, times, divide, modulo}
-use Rattle.tg_model.specs.Types.{Ty, nat, bool, parameter, applied, tys}
-use Rattle.tg_model.specs.Theory.{Theory, Datatype, Function, numbered}
-use Rattle.tg_model.specs.TermTyping.{Typing, leaf, instanced, compound, branching, binding, none, more, end, arm, IsOperation, IsTyping, IsTyped, type_of}
+use Rattle.tg_model.specs.Types.{Ty, nat, bool}
+use Rattle.tg_model.specs.TermTyping.{Typing, leaf, instanced, compound, branching, binding, none, more, end, arm, IsOperation, IsTyped, type_of}
 use Rattle.tg_model.proofs.Inversions.{truth_type, literal_type, unary, binary, conditional}
 use Rattle.tg_model.proofs.KnownValues.{list_of, pair_of, nil, cons, sorting, nil_of, cons_of, lists, len, twin}
 

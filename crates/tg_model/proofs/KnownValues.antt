@@ -1,18 +1,17 @@
 -- Values that are known from the standard and by hand, said of the definitions, so that a slip in one of them doesn't check.
-use Rattle.std.proofs.Common.{ℕ, zero, suc, ◌≡◌, true, false, refl, ap, sym, ◌∙◌, List, [], ◌∷◌, inl, inr, arith, lit≤}
+use Rattle.std.proofs.Common.{ℕ, zero, suc, ◌≡◌, true, false, refl, ap, sym, ◌∙◌, List, [], ◌∷◌, inl, inr}
 use Rattle.std.specs.Prelude.{codes}
 use Rattle.std.proofs.Math.Dec.{eqb-suc-zero}
 use Rattle.tg_model.specs.Tree as tree
 use Rattle.tg_model.specs.Tree.{Tree, Trees, Arms, bound, free, literal, truth, con, call, put, choice, case, bind, op, arm, end, one, two, trees, Operator, successor, negation, conjunction, disjunction, implication, equality, less, less_equal, plus, minus, times, divide, modulo, unnamed}
 use Rattle.tg_model.specs.Types.{Ty, nat, bool, parameter, applied, tys}
-use Rattle.tg_model.specs.Value.{Value, number, boolean, made, values, wrong, depth, IsShallow}
-use Rattle.tg_model.specs.Formula.{atom, all, some, thyp, tested, deep}
+use Rattle.tg_model.specs.Value.{Value, number, boolean, made, values, wrong}
+use Rattle.tg_model.specs.Formula.{atom}
 use Rattle.tg_model.specs.Theory.{Theory, Datatype, Function, Owned, plain, recursive, first_constructor}
 use Rattle.tg_model.specs.Typing.{HasType, least}
 use Rattle.tg_model.specs.Table.{Table, IsTable}
 use Rattle.tg_model.specs.Denotation.{den}
-use Rattle.tg_model.specs.Truth.{Holds, IsTrueOn, SatisfiesSpecification}
-use Rattle.tg_model.proofs.SameValue.{same_itself}
+use Rattle.tg_model.specs.Truth.{IsTrueOn}
 
 -- A theory with a list, a tree of two naturals and a pair; `ins` and `sort` are insertion sort, `double` a definition:
 --   datatype 'a list = Nil | Cons 'a ('a list);

@@ -6,6 +6,7 @@ pub mod CallTables
 pub mod ClosedValues
 pub mod Constructors
 pub mod Contexts
+pub mod Equalities
 pub mod Freshness
 pub mod Inhabited
 pub mod Instances
@@ -17,6 +18,8 @@ pub mod KnownOperators
 pub mod KnownTheories
 pub mod KnownTypings
 pub mod KnownValues
+pub mod KnownWords
+pub mod MadeTerms
 pub mod Narrowing
 pub mod Numbering
 pub mod OwnCalls

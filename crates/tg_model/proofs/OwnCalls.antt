@@ -1,11 +1,11 @@
 -- A function without type parameters uses itself at its declared type, whatever typing its body has.
-use Rattle.std.proofs.Common.{ℕ, zero, suc, ◌≡◌, List, [], ◌∷◌, ◌++◌, reverse, length, Some, refl, sym, ◌∙◌, ap, subst}
+use Rattle.std.proofs.Common.{ℕ, ◌≡◌, List, [], ◌∷◌, ◌++◌, reverse, length, Some, refl, sym, ◌∙◌, ap, subst}
 use Rattle.tg_model.specs.Tree as tree
 use Rattle.tg_model.specs.Tree.{Tree, Trees, Arms, bound, free, literal, truth, con, call, put, choice, case, bind, op}
 use Rattle.tg_model.specs.Types.{Ty}
 use Rattle.tg_model.specs.Theory.{Theory, Function, Body, plain, recursive, numbered}
 use Rattle.tg_model.specs.Denotation.{others}
-use Rattle.tg_model.specs.TermTyping.{Typing, Typings, ArmTypings, leaf, instanced, compound, branching, binding, none, more, end, arm, constructor_arguments, IsTyping, AreTypings, AreArmTypings}
+use Rattle.tg_model.specs.TermTyping.{Typing, Typings, ArmTypings, instanced, compound, branching, binding, none, more, end, arm, constructor_arguments, IsTyping, AreTypings, AreArmTypings}
 use Rattle.tg_model.specs.WellTyped.{AreCases, IsBody}
 use Rattle.tg_model.specs.Accepted.{UsesAt, AllUseAt, ArmsUseAt, parameters_from, UseThemselves, UsesItself}
 

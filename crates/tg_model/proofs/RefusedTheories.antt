@@ -1,16 +1,14 @@
 -- Theories that aren't well typed, or not accepted: one for each condition, which fails there.
-use Rattle.std.proofs.Common.{ℕ, zero, suc, ◌≡◌, ◌<◌, true, false, refl, sym, ◌∙◌, ap, subst, List, [], ◌∷◌, map, Some, inl, inr, arith}
+use Rattle.std.proofs.Common.{ℕ, zero, suc, ◌≡◌, true, false, refl, sym, ◌∙◌, ap, subst, List, [], ◌∷◌, map, Some, inl, inr, arith}
 use Rattle.std.specs.Prelude.{codes}
-use Rattle.tg_model.specs.Tree as tree
-use Rattle.tg_model.specs.Tree.{Tree, free, literal, truth, con, call, put, op, one, two, plus, successor, equality}
-use Rattle.tg_model.specs.Types as types
+use Rattle.tg_model.specs.Tree.{Tree, free, literal, truth, call, put, op, one, two, successor, equality}
 use Rattle.tg_model.specs.Types.{Ty, nat, bool, parameter, applied, tys}
 use Rattle.tg_model.specs.Theory.{Theory, Datatype, Constructor, Function, Program, plain, recursive, instance, datatype_of}
 use Rattle.tg_model.specs.TermTyping.{Typing, leaf, instanced, compound, branching, binding, none, more, type_of, types_of, IsTyping}
 use Rattle.tg_model.specs.WellTyped.{AreBefore, IsBody, IsWellTyped}
 use Rattle.tg_model.specs.Accepted.{UsesAt, UsesItself, IsAccepted}
 use Rattle.tg_model.proofs.Inversions.{truth_type, literal_type}
-use Rattle.tg_model.proofs.KnownValues.{list_of, nil, cons, lists, ins, double, sorting}
+use Rattle.tg_model.proofs.KnownValues.{list_of, lists}
 
 some_type : {x y : Ty} → Some x ≡ Some y → x ≡ y
 some_type e = cc

@@ -1,5 +1,5 @@
 -- `same_value` decides equality of values.
-use Rattle.std.proofs.Common.{◌≡◌, Bool, true, false, ◌&&◌, refl, ap, subst, nat_eq}
+use Rattle.std.proofs.Common.{◌≡◌, Bool, true, false, refl, ap, subst, nat_eq}
 use Rattle.std.proofs.lemmas.Bool.{eqb-true, eq-eqb}
 use Rattle.tg_model.specs.Value.{Value, Values, number, boolean, made, same_value, same_values, same_truth}
 use Rattle.tg_model.specs.Value as value

@@ -14,6 +14,7 @@ pub data Formula : Type 0 where
   thyp : (f : Formula) → Formula
   tested : (ts : Trees) → Formula
   deep : (k : ℕ) (ts : Trees) → Formula
+  deriving Discrete as formula_discrete
 
 -- A sequent: the types of its free variables, its hypotheses and its goal.
 pub record Sequent : Type 0 where

@@ -10,6 +10,8 @@ pub mod Truth
 pub mod TermTyping
 pub mod WellTyped
 pub mod Calls
+pub mod Equality
+pub mod Made
 pub mod Accepted
 pub mod Uses
 pub mod Walk

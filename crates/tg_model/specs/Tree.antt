@@ -18,6 +18,7 @@ pub data Operator : Type 0 where
   divide : Operator
   modulo : Operator
   unnamed : (n : ℕ) → Operator
+  deriving Discrete as operator_discrete
 
 mutual
   -- `bound k` counts binders from the inside, from 0; `free n` is the variable `?n`, from 1
@@ -33,15 +34,18 @@ mutual
     case : (d : ℕ) (t : Tree) (arms : Arms) → Tree
     bind : (t : Tree) (body : Tree) → Tree
     op : (o : Operator) (ts : Trees) → Tree
+    deriving Discrete as tree_discrete
 
   pub data Trees : Type 0 where
     none : Trees
     more : (t : Tree) (ts : Trees) → Trees
+    deriving Discrete as trees_discrete
 
   -- the branches of a `case`, in the order of the constructors, each with its number of variables
   pub data Arms : Type 0 where
     end : Arms
     arm : (vars : ℕ) (body : Tree) (arms : Arms) → Arms
+    deriving Discrete as arms_discrete
 
 abbrev pub trees : List Tree → Trees
 trees [] = none

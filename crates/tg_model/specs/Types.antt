@@ -10,10 +10,12 @@ mutual
     parameter : (n : ℕ) → Ty
     meta : (n : ℕ) → Ty
     applied : (d : ℕ) (ts : Tys) → Ty
+    deriving Discrete as type_discrete
 
   pub data Tys : Type 0 where
     none : Tys
     more : (t : Ty) (ts : Tys) → Tys
+    deriving Discrete as types_discrete
 
 abbrev pub tys : List Ty → Tys
 tys [] = none

@@ -9,6 +9,8 @@ ghost use Rattle.tg_model.specs.Laws.{SubstitutionKeepsTruth, InstantiationKeeps
 ghost use Rattle.tg_model.specs.Laws.{LiftingKeepsTypes, SubstitutionKeepsTypes, InstantiationKeepsTypes, AbstractionKeepsTypes};
 ghost use Rattle.tg_model.specs.Laws.{SubstitutionKeepsForm, InstantiationKeepsForm, AbstractionKeepsForm};
 ghost use Rattle.tg_model.specs.Laws.{DependsOnUsed, TruthDependsOnUsed};
+ghost use Rattle.tg_model.specs.Equality.{DecidesTrees, DecidesTypes, DecidesFormulas};
+ghost use Rattle.tg_model.specs.Made.{MadeTermsStay};
 ghost use Rattle.tg_model.specs.CallLaws.{DefinitionsAreBodies, RecursionsAreBodies, NeedsNoTable, NeedsOneAnswer};
 ghost use Rattle.tg_model.specs.TypeLaws.{InstanceKeepsTypes, IsTypeSoundAt, TruthHasOneType, TypesDependOnUsed, FormDependsOnUsed};
 ghost use Rattle.tg_model.specs.TypeLaws.{UsedHaveTypes, UsedInFormulasHaveTypes, ContextsGrow, ContextsGrowForm, IsClosedValue};
@@ -22,9 +24,12 @@ pub fn unfolding()
     ensures calls { UnfoldsCalls }
 {}
 
-/// `=` on values is equality.
+/// `=` on values is equality, and equality of terms, types and formulas is decided.
 pub fn equality()
-    ensures { DecidesEquality }
+    ensures values { DecidesEquality }
+    ensures terms { DecidesTrees }
+    ensures types { DecidesTypes }
+    ensures formulas { DecidesFormulas }
 {}
 
 /// What a table lists with an answer is what the program answers there, and its inputs are typed.
@@ -121,4 +126,10 @@ pub fn values_of_types()
 /// A typed term has the branches of each `case` as declared.
 pub fn branches()
     ensures { CasesAreDeclared }
+{}
+
+/// A term of constructors, variables and truth values alone has one value within any binders, calls no
+/// program, and is what it is lifted and instantiated to.
+pub fn made_terms()
+    ensures { MadeTermsStay }
 {}
