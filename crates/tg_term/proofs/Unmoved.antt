@@ -1,8 +1,11 @@
--- A walk that replaces each variable by itself gives the term back, so lifting by nothing does.
-use Rattle.std.proofs.Common.{ℕ, ◌≡◌, ◌+◌, Bool, true, false, refl, ap, nat_lt, if◌then◌else◌, arith}
+-- A walk that replaces each variable by itself gives the term back, and one that leaves free variables alone gives back a
+-- term none of whose bound variables is loose.
+use Rattle.std.proofs.Common.{ℕ, ◌≡◌, ◌<◌, ◌≤◌, ◌+◌, List, Bool, true, false, refl, ap, nat_lt, if◌then◌else◌, arith}
 use Rattle.tg_model.specs.Tree as model
 use Rattle.tg_model.specs.Tree.{Tree, Trees, Arms, bound, free, literal, truth, con, call, put, choice, case, bind, op}
-use Rattle.tg_model.specs.Walk.{walk, walk_all, walk_arms, raised, as_free, lifted}
+use Rattle.tg_model.specs.Walk.{walk, walk_all, walk_arms, raised, as_free, filled, lifted}
+use Rattle.std.proofs.lemmas.Bool.{lt-ltb}
+use Rattle.tg_term.specs.Measures.{loose_range, loose_among, loose_within}
 
 module _ (on_bound on_free : ℕ → ℕ → Tree) (bounds : (d k : ℕ) → on_bound d k ≡ bound k) (frees : (d n : ℕ) → on_free d n ≡ free n) where
   mutual
@@ -33,3 +36,37 @@ either false k m e = ap bound e
 
 pub lifted_zero : (t : Tree) → lifted 0 t ≡ t
 lifted_zero t = unmoved (raised 0) as_free (λ d k. either (nat_lt k d) k (k + 0) (omega arith)) (λ d n. refl) t 0
+
+module _ (on_bound on_free : ℕ → ℕ → Tree) (bounds : (d k : ℕ) → k < d → on_bound d k ≡ bound k) (frees : (d n : ℕ) → on_free d n ≡ free n) where
+  mutual
+    pub left_alone : (t : Tree) (d : ℕ) → loose_range t ≤ d → walk on_bound on_free d t ≡ t
+    left_alone (bound k) d h = bounds d k (omega arith)
+    left_alone (free n) d h = frees d n
+    left_alone (literal n) d h = refl
+    left_alone (truth b) d h = refl
+    left_alone (con c ts) d h = ap (con c) (all_left_alone ts d h)
+    left_alone (call f ts) d h = ap (call f) (all_left_alone ts d h)
+    left_alone (put ts) d h = ap put (all_left_alone ts d h)
+    left_alone (choice ts) d h = ap choice (all_left_alone ts d h)
+    left_alone (case e t arms) d h = λ i. case e (left_alone t d (omega arith) i) (arms_left_alone arms d (omega arith) i)
+    left_alone (bind t body) d h = λ i. bind (left_alone t d (omega arith) i) (left_alone body (d + 1) (omega arith) i)
+    left_alone (op o ts) d h = ap (op o) (all_left_alone ts d h)
+
+    all_left_alone : (ts : Trees) (d : ℕ) → loose_among ts ≤ d → walk_all on_bound on_free d ts ≡ ts
+    all_left_alone model.none d h = refl
+    all_left_alone (model.more t ts) d h = λ i. model.more (left_alone t d (omega arith) i) (all_left_alone ts d (omega arith) i)
+
+    arms_left_alone : (arms : Arms) (d : ℕ) → loose_within arms ≤ d → walk_arms on_bound on_free d arms ≡ arms
+    arms_left_alone model.end d h = refl
+    arms_left_alone (model.arm n body arms) d h = λ i. model.arm n (left_alone body (d + n) (omega arith) i) (arms_left_alone arms d (omega arith) i)
+
+below : (k d : ℕ) (t : Tree) → k < d → (if nat_lt k d then bound k else t) ≡ bound k
+below k d t h = rw (lt-ltb k d h) refl
+
+pub left_by_lifting : (by : ℕ) (t : Tree) (d : ℕ) → loose_range t ≤ d → walk (raised by) as_free d t ≡ t
+left_by_lifting by = left_alone (raised by) as_free (λ d k. below k d _) (λ d n. refl)
+
+pub left_by_filling : (us : List Tree) (t : Tree) (d : ℕ) → loose_range t ≤ d → walk (filled us) as_free d t ≡ t
+left_by_filling us = left_alone (filled us) as_free (λ d k. below k d _) (λ d n. refl)
+
+pub ruleset left = (left_by_lifting, left_by_filling)

@@ -2,10 +2,11 @@ pub mod Classes
 pub mod Code
 pub mod Falls
 pub mod Formulas
-pub mod Height
+pub mod Measures
 pub mod KnownFormulas
 pub mod KnownValues
 pub mod Operators
+pub mod Parts
 pub mod Substituting
 pub mod Values
 pub mod View

@@ -5,6 +5,8 @@ mod classes;
 mod comparing;
 mod formula_walking;
 mod formulas;
+mod measuring;
+mod parts;
 mod substituting;
 mod terms;
 #[cfg(test)]

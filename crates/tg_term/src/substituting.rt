@@ -107,6 +107,11 @@ impl Replace for Lifting {
     ) -> Result<Option<Term>, AllocError> {
         Ok(None)
     }
+
+    #[tactic(auto, using(crate::proofs::Unmoved::left))]
+    fn leaves(&self, t: &Term, depth: u64) -> bool {
+        t.loose_range() <= depth
+    }
 }
 
 /// The terms that stand for free variables.
@@ -136,6 +141,10 @@ impl Replace for Terms<'_> {
             Some(u) => Ok(Some(lift_over(alloc, u, depth)?)),
             None => Ok(Some(Term::new(alloc, Node::Truth(false))?)),
         }
+    }
+
+    fn leaves(&self, _t: &Term, _depth: u64) -> bool {
+        false
     }
 }
 
@@ -183,6 +192,11 @@ impl Replace for Arguments<'_> {
     ) -> Result<Option<Term>, AllocError> {
         Ok(None)
     }
+
+    #[tactic(auto, using(crate::proofs::Unmoved::left))]
+    fn leaves(&self, t: &Term, depth: u64) -> bool {
+        t.loose_range() <= depth
+    }
 }
 
 /// The item of a place counted from the end, from 0.
@@ -225,5 +239,9 @@ impl Replace for Abstraction {
         } else {
             Ok(None)
         }
+    }
+
+    fn leaves(&self, _t: &Term, _depth: u64) -> bool {
+        false
     }
 }
