@@ -1,4 +1,6 @@
 pub mod CallSoundness
+pub mod ClosedTruth
+pub mod KnownClosures
 pub mod Freshness
 pub mod Inhabited
 pub mod Instances

@@ -12,3 +12,4 @@ pub mod WellTyped
 pub mod Uses
 pub mod Walk
 pub mod Laws
+pub mod Closing

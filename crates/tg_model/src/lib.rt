@@ -9,6 +9,7 @@ ghost use Rattle.tg_model.specs.Laws.{SubstitutionKeepsTruth, InstantiationKeeps
 ghost use Rattle.tg_model.specs.Laws.{LiftingKeepsTypes, SubstitutionKeepsTypes, InstantiationKeepsTypes, AbstractionKeepsTypes};
 ghost use Rattle.tg_model.specs.Laws.{SubstitutionKeepsForm, InstantiationKeepsForm, AbstractionKeepsForm};
 ghost use Rattle.tg_model.specs.Laws.{DependsOnUsed, TruthDependsOnUsed};
+ghost use Rattle.tg_model.specs.Closing.{ClosureIsUniversal, ClosureIsExistential};
 
 /// The meaning of calls, as equations: a primitive recursive call is the body of its constructor's case,
 /// and a call of a declared function is its body. The definition counts a number down, and this says
@@ -69,4 +70,11 @@ pub fn substitution_and_form()
 pub fn used_variables()
     ensures values { DependsOnUsed }
     ensures truth { TruthDependsOnUsed }
+{}
+
+/// The closures of a formula: `ALL` or `EX` of its variables' types, in their order, round the formula
+/// with all its variables bound at once.
+pub fn closures()
+    ensures universal { ClosureIsUniversal }
+    ensures existential { ClosureIsExistential }
 {}
