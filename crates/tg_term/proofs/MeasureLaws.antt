@@ -4,10 +4,17 @@ use Rattle.std.proofs.lemmas.List.{drop_all}
 use Rattle.std.specs.Prelude.{slice_get}
 use Rattle.tg_model.specs.Tree as model
 use Rattle.tg_model.specs.Tree.{Tree, Trees, Arms, bound, free, literal, truth, con, call, put, choice, case, bind, op}
-use Rattle.tg_term.specs.Measures.{nodes, nodes_of, nodes_within, height, heights, heights_within, loose_range, loose_among, loose_within, own_range, counted, measures}
+use Rattle.tg_term.specs.Measures.{nodes, nodes_of, nodes_within, height, heights, heights_within, loose_range, loose_among, loose_within, own_range, counted, measures, raised, joined}
+use Rattle.tg_term.specs.FormulaMeasures.{formula_measures}
+use Rattle.tg_model.specs.Types.{Ty}
+use Rattle.tg_model.specs.Formula.{Formula, atom, both, implies, all, some, thyp}
 use Rattle.tg_term.specs.declared.measuring.Measures.{Measures}
 use Rattle.tg_term.specs.Parts.{Part, plain, bodies, parts}
 use Rattle.tg_term.proofs.PartLaws.{drop_at}
+
+same : (m n h g l r : ℕ) → m ≡ n → h ≡ g → l ≡ r
+    → ◌≡◌ {A = Measures} (record { nodes = m; height = h; loose_range = l }) (record { nodes = n; height = g; loose_range = r })
+same m n h g l r a b c = λ i. record { nodes = a i; height = b i; loose_range = c i }
 
 abbrev pub total : List Part → ℕ
 total [] = 0
@@ -122,5 +129,26 @@ leads_end t i n h l past k =
     let b : h ≡ height t = let x = k.height in let y : highest (drop i (parts t)) ≡ 0 = ap highest e in omega arith in
     let c : l ≡ loose_range t = let x = k.loose in let y : loosest (drop i (parts t)) ≡ 0 = ap loosest e in omega arith in
     λ j. record { nodes = a j; height = b j; loose_range = c j }
+
+-- the measures of a formula's node
+pub atom_measures : (t : Tree) → raised (measures t) 0 ≡ formula_measures (atom t)
+atom_measures t = same _ _ _ _ _ _ (omega arith) refl (omega arith)
+
+pub thyp_measures : (f : Formula) → raised (formula_measures f) 0 ≡ formula_measures (thyp f)
+thyp_measures f = same _ _ _ _ _ _ (omega arith) refl (omega arith)
+
+pub all_measures : (t : Ty) (f : Formula) → raised (formula_measures f) 1 ≡ formula_measures (all t f)
+all_measures t f = same _ _ _ _ _ _ (omega arith) refl refl
+
+pub some_measures : (t : Ty) (f : Formula) → raised (formula_measures f) 1 ≡ formula_measures (some t f)
+some_measures t f = same _ _ _ _ _ _ (omega arith) refl refl
+
+pub both_measures : (f g : Formula) → joined (formula_measures f) (formula_measures g) ≡ formula_measures (both f g)
+both_measures f g = same _ _ _ _ _ _ (omega arith) refl refl
+
+pub implies_measures : (f g : Formula) → joined (formula_measures f) (formula_measures g) ≡ formula_measures (implies f g)
+implies_measures f g = same _ _ _ _ _ _ (omega arith) refl refl
+
+pub ruleset joining = (atom_measures, thyp_measures, all_measures, some_measures, both_measures, implies_measures)
 
 pub ruleset measuring = (leads_first)

@@ -126,7 +126,7 @@ pub taken_next : (ps : List Part) (i : ℕ) (p : Part) (us vs ws : List Tree) �
     → ws ≡ vs ++ p.term ∷ [] → ws ≡ us ++ map term_of (take (i + 1) ps)
 taken_next ps i p us vs ws e a b =
     b ∙ ap (λ (l : List Tree). l ++ p.term ∷ []) a ∙ append_assoc us (map term_of (take i ps)) (p.term ∷ [])
-    ∙ ap (λ (l : List Tree). us ++ l) (sym (map-append term_of (take i ps) (p ∷ []))) 
+    ∙ ap (λ (l : List Tree). us ++ l) (sym (map-append term_of (take i ps) (p ∷ [])))
     ∙ ap (λ (l : List Part). us ++ map term_of l) (sym (take_at ps i p e) ∙ ap (λ n. take n ps) (sym (add-one i)))
 
 module _ (f : Part → Tree) (ps : List Part) (i : ℕ) (p : Part) (e : slice_get ps i ≡ Some p) where
@@ -168,4 +168,5 @@ module _ (f : Part → Tree) (ps : List Part) (i : ℕ) (p : Part) (e : slice_ge
       ends (y ∷ ys) x h = absurd cc
 
 pub ruleset sharing = (taken_next, none_within)
+
 pub ruleset adding = (still_kept, added, begun)

@@ -1,6 +1,9 @@
 pub mod Classes
 pub mod Code
 pub mod Falls
+pub mod FormulaCode
+pub mod FormulaFalls
+pub mod FormulaMeasures
 pub mod Formulas
 pub mod Measures
 pub mod KnownFormulas

@@ -93,3 +93,11 @@ pub record IsKnown (m : Measures) (t : Tree) : Type 0 where
 abbrev pub own_range : Tree → ℕ
 own_range (bound k) = k + 1
 own_range _ = 0
+
+-- the measures of a node above one that binds `vars` variables, and above two
+abbrev pub raised : Measures → ℕ → Measures
+raised m vars = record { nodes = counted (m.nodes + 1); height = m.height + 1; loose_range = m.loose_range - vars }
+
+abbrev pub joined : Measures → Measures → Measures
+joined m n =
+    record { nodes = counted (counted (m.nodes + n.nodes) + 1); height = max m.height n.height + 1; loose_range = max m.loose_range n.loose_range }

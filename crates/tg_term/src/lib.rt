@@ -16,8 +16,8 @@ mod walking;
 
 pub use classes::{Class, Outcome, Pattern, Test};
 pub use comparing::same;
-pub use formula_walking::{abstract_formula, instantiate_formula, subst_formula};
-pub use formulas::Formula;
+pub use formula_walking::{abstract_formula, close_formula, instantiate_formula, subst_formula};
+pub use formulas::{Formula, FormulaNode};
 pub use substituting::{abstract_var, instantiate, lift, subst};
 pub use terms::{Branch, ConId, FunId, Node, OpId, Term};
 pub use values::Value;

@@ -109,8 +109,8 @@ impl Replace for Lifting {
     }
 
     #[tactic(auto, using(crate::proofs::Unmoved::left))]
-    fn leaves(&self, t: &Term, depth: u64) -> bool {
-        t.loose_range() <= depth
+    fn leaves(&self, range: u64, depth: u64) -> bool {
+        range <= depth
     }
 }
 
@@ -143,7 +143,7 @@ impl Replace for Terms<'_> {
         }
     }
 
-    fn leaves(&self, _t: &Term, _depth: u64) -> bool {
+    fn leaves(&self, _range: u64, _depth: u64) -> bool {
         false
     }
 }
@@ -194,8 +194,8 @@ impl Replace for Arguments<'_> {
     }
 
     #[tactic(auto, using(crate::proofs::Unmoved::left))]
-    fn leaves(&self, t: &Term, depth: u64) -> bool {
-        t.loose_range() <= depth
+    fn leaves(&self, range: u64, depth: u64) -> bool {
+        range <= depth
     }
 }
 
@@ -241,7 +241,44 @@ impl Replace for Abstraction {
         }
     }
 
-    fn leaves(&self, _t: &Term, _depth: u64) -> bool {
+    fn leaves(&self, _range: u64, _depth: u64) -> bool {
+        false
+    }
+}
+
+/// The number of free variables, from the first, that are bound by quantifiers round the formula.
+#[derive(Clone, Copy, Debug)]
+pub(crate) struct Closing {
+    pub(crate) count: u32,
+}
+
+impl Replace for Closing {
+    ghost use Rattle.tg_model.specs.Walk.{raised};
+    ghost use Rattle.tg_model.specs.Closing.{bound_among};
+
+    ghost on_bound = { λ s. raised s.count };
+
+    ghost on_free = { λ s. bound_among s.count };
+
+    fn for_bound(&self, alloc: Global, depth: u64, index: u32) -> Result<Option<Term>, AllocError> {
+        if u64::from(index) < depth {
+            Ok(None)
+        } else {
+            raise(alloc, index, u64::from(self.count))
+        }
+    }
+
+    fn for_free(&self, alloc: Global, depth: u64, number: u32) -> Result<Option<Term>, AllocError> {
+        if number == 0 || self.count < number {
+            return Ok(None);
+        }
+        match depth.checked_add(u64::from(self.count - number)) {
+            Some(index) => bound_variable(alloc, index),
+            None => Err(AllocError),
+        }
+    }
+
+    fn leaves(&self, _range: u64, _depth: u64) -> bool {
         false
     }
 }

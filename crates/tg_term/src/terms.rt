@@ -1,5 +1,5 @@
 ghost use Rattle.std.specs.Prelude.{◌≡◌, ◌≤◌, IfOk};
-ghost use Rattle.tg_term.specs.Measures.{nodes, height, loose_range, counted, most_height};
+ghost use Rattle.tg_term.specs.Measures.{nodes, height, loose_range, counted, measures, most_height};
 ghost use Rattle.tg_term.specs.View.{tree};
 
 use crate::measuring::{Measures, measured};
@@ -20,7 +20,7 @@ pub type OpId = u32;
 
 /// No term is higher than this. So what walks down a term, and what drops its last handle, needs a
 /// bounded part of the stack.
-const MAX_HEIGHT: u64 = 10_000;
+pub(crate) const MAX_HEIGHT: u64 = 10_000;
 
 /// A term. It shares its node with the terms that `share` makes of it. A contract sees it as a tree.
 #[cycle(term)]
@@ -86,6 +86,7 @@ impl Model for Term {
     ghost coded = { coded_tree };
 
     ghost use Rattle.tg_term.specs.View.{tree};
+
     ghost view = { λ a. tree a.node.value.node };
 
     ghost use Rattle.tg_term.specs.Measures.{IsKnown, height};
@@ -130,6 +131,14 @@ impl Term {
         ensures { tree result.now ≡ self.now }
     {
         &self.node.as_ref().node
+    }
+
+    /// What the term knows of itself.
+    pub(crate) fn measures(&self) -> Measures
+        ensures is { result ≡ measures self.now }
+        ensures bounded { result.height ≤ most_height }
+    {
+        self.node.as_ref().measures
     }
 
     /// The number of nodes of the tree, a count that stops at 2^64 - 1. A branch counts as its body.

@@ -1,8 +1,10 @@
 //! One walk over terms and formulas, of which lifting, substitution, instantiation and abstraction are
 //! instances. A part in which nothing is replaced is handed on as it is.
-ghost use Rattle.std.specs.Prelude.{◌≡◌, ◌+◌, IfOk, IsTrue, unwrap_or};
+ghost use Rattle.std.specs.Prelude.{◌≡◌, ◌≤◌, ◌+◌, IfOk, IsTrue, unwrap_or};
 ghost use Rattle.tg_model.specs.Tree.{bound, free, trees};
-ghost use Rattle.tg_model.specs.Walk.{walk, walk_all};
+ghost use Rattle.tg_model.specs.Walk.{walk, walk_all, walk_formula};
+ghost use Rattle.tg_term.specs.FormulaMeasures.{formula_range};
+ghost use Rattle.tg_term.specs.Measures.{loose_range};
 
 use crate::parts::{add_part, part_at, part_count, with_parts};
 use crate::terms::{Node, Term};
@@ -13,6 +15,7 @@ use std::alloc::{AllocError, Global};
 pub(crate) trait Replace {
     ghost use Rattle.std.specs.Prelude.{ℕ};
     ghost use Rattle.tg_model.specs.Tree.{Tree};
+    ghost use Rattle.tg_model.specs.Formula as model;
 
     ghost on_bound: { Self → ℕ → ℕ → Tree };
 
@@ -24,9 +27,12 @@ pub(crate) trait Replace {
     fn for_free(&self, alloc: Global, depth: u64, number: u32) -> Result<Option<Term>, AllocError>
         ensures { IfOk result (λ o. unwrap_or o (free number) ≡ on_free self.now depth number) };
 
-    /// Whether it is known without a walk that nothing in the term is replaced.
-    fn leaves(&self, t: &Term, depth: u64) -> bool
-        ensures { IsTrue result → walk (on_bound self.now) (on_free self.now) depth t.now ≡ t.now };
+    /// Whether it is known without a walk that nothing is replaced in terms and formulas of this loose
+    /// range.
+    fn leaves(&self, range: u64, depth: u64) -> bool
+        ensures terms { IsTrue result → (t : Tree) → loose_range t ≤ range → walk (on_bound self.now) (on_free self.now) depth t ≡ t }
+        ensures formulas { IsTrue result → (f : model.Formula) → formula_range f ≤ range
+            → walk_formula (on_bound self.now) (on_free self.now) depth f ≡ f };
 }
 
 /// The term that the walk gives, or `None` where nothing in it is replaced.
@@ -38,7 +44,7 @@ pub(crate) fn walk_at<R: Replace>(
 ) -> Result<Option<Term>, AllocError>
     ensures { IfOk result (λ o. unwrap_or o t.now ≡ walk (R.on_bound r.now) (R.on_free r.now) depth t.now) }
 {
-    if r.leaves(t, depth) {
+    if r.leaves(t.loose_range(), depth) {
         return Ok(None);
     }
     let node = t.node();
@@ -83,16 +89,6 @@ pub(crate) fn walk_list<R: Replace>(
     } else {
         Ok(None)
     }
-}
-
-pub(crate) fn shared_terms(alloc: Global, ts: &[Term]) -> Result<Items<Term>, AllocError>
-    ensures { IfOk result (λ us. us ≡ ts.now) }
-{
-    let mut out = Items::new(alloc);
-    for t in ts {
-        out.push(t.share()?)?;
-    }
-    Ok(out)
 }
 
 /// The term that was walked to, or else the same term.
