@@ -1,6 +1,7 @@
 pub mod CallSoundness
 pub mod ClosedTruth
 pub mod KnownClosures
+pub mod KnownFillings
 pub mod Freshness
 pub mod Inhabited
 pub mod Instances

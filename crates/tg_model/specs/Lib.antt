@@ -13,3 +13,4 @@ pub mod Uses
 pub mod Walk
 pub mod Laws
 pub mod Closing
+pub mod Filling

@@ -5,6 +5,7 @@ pub mod FormulaCode
 pub mod FormulaFalls
 pub mod FormulaMeasures
 pub mod Formulas
+pub mod Matching
 pub mod Measures
 pub mod KnownFormulas
 pub mod KnownValues

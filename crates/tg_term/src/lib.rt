@@ -3,6 +3,7 @@
 
 mod classes;
 mod comparing;
+mod filling;
 mod formula_walking;
 mod formulas;
 mod measuring;
@@ -11,13 +12,16 @@ mod substituting;
 mod terms;
 #[cfg(test)]
 mod tests;
+mod valued;
 mod values;
 mod walking;
 
 pub use classes::{Class, Outcome, Pattern, Test};
 pub use comparing::same;
+pub use filling::fill;
 pub use formula_walking::{abstract_formula, close_formula, instantiate_formula, subst_formula};
 pub use formulas::{Formula, FormulaNode};
 pub use substituting::{abstract_var, instantiate, lift, subst};
 pub use terms::{Branch, ConId, FunId, Node, OpId, Term};
+pub use valued::depth;
 pub use values::Value;
