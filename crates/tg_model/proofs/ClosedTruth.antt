@@ -1,5 +1,5 @@
 -- Closing keeps truth: the closed formula, within the values of the quantifiers, is true where the formula is at these values.
-use Rattle.std.proofs.Common.{ℕ, zero, suc, ◌≡◌, ◌<◌, ◌≤◌, ◌+◌, ◌-◌, ◌↔◌, ◌⊎◌, inl, inr, Bool, true, false, ◌&&◌, List, [], ◌∷◌, ◌++◌, map, reverse, length, drop, Option, Some, None, refl, sym, ◌∙◌, ap, subst, nat_lt, nat_le, if◌then◌else◌, arith, length-append, append_assoc}
+use Rattle.std.proofs.Common.{ℕ, zero, suc, ◌≡◌, ◌<◌, ◌≤◌, ◌+◌, ◌-◌, ◌⊎◌, inl, inr, Bool, true, false, ◌&&◌, List, [], ◌∷◌, ◌++◌, reverse, length, drop, Some, refl, sym, ◌∙◌, ap, subst, nat_lt, nat_le, if◌then◌else◌, arith, length-append, append_assoc}
 use Rattle.std.specs.Prelude.{slice_get, unwrap_or, get_or}
 use Rattle.std.proofs.lemmas.List.{length-reverse, get_or-reverse, reverse-append}
 use Rattle.std.proofs.lemmas.Option.{slice_get-get_or}
@@ -9,7 +9,7 @@ use Rattle.tg_model.specs.Types.{Ty}
 use Rattle.tg_model.specs.Value.{Value, wrong}
 use Rattle.tg_model.specs.Formula.{Formula}
 use Rattle.tg_model.specs.Theory.{Theory, numbered}
-use Rattle.tg_model.specs.Typing.{HasType, AreTyped}
+use Rattle.tg_model.specs.Typing.{AreTyped}
 use Rattle.tg_model.specs.Table.{Table}
 use Rattle.tg_model.specs.Denotation.{value_in, world}
 use Rattle.tg_model.specs.Truth.{Holds}

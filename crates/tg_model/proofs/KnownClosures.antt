@@ -1,6 +1,6 @@
 -- Known closures: which variable which quantifier binds, and what stays.
 use Rattle.std.proofs.Common.{◌≡◌, [], ◌∷◌, refl}
-use Rattle.tg_model.specs.Tree.{literal, bound, free, bind, op, two, one, less, equality}
+use Rattle.tg_model.specs.Tree.{literal, bound, free, bind, op, two, less}
 use Rattle.tg_model.specs.Types.{nat, bool}
 use Rattle.tg_model.specs.Formula.{atom, implies, all, some, tested}
 use Rattle.tg_model.specs.Closing.{closed, universal_closure, existential_closure}

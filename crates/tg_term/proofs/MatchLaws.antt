@@ -1,15 +1,22 @@
 -- What a walk over a pattern notes are the values at which the pattern gives the inputs, where there are such values.
-use Rattle.std.proofs.Common.{ℕ, zero, suc, ◌≡◌, ◌<◌, ◌≤◌, ◌+◌, ◌⊎◌, inl, inr, Bool, true, false, ◌||◌, nat_eq, List, [], ◌∷◌, map, length, Option, Some, None, refl, ap, sym, ◌∙◌, subst, arith}
+use Rattle.std.proofs.Common.{ℕ, zero, suc, ◌≡◌, ◌<◌, ◌≤◌, ◌+◌, ◌⊎◌, inl, inr, Bool, true, false, ◌||◌, nat_eq, List, [], ◌∷◌, ◌++◌, map, length, take, drop, append-nil, Option, Some, None, refl, ap, sym, ◌∙◌, subst, arith, add-one}
 use Rattle.std.specs.Prelude.{slice_get, slice_set, option_map, unwrap_or}
 use Rattle.std.proofs.lemmas.Option.{same_Some, none-some}
 use Rattle.std.proofs.lemmas.Bool.{eqb-true}
+use Rattle.std.proofs.lemmas.List.{map-append, length-map, drop_all, take_all}
+use Rattle.tg_model.proofs.SameValue.{decides_equality}
+use Rattle.tg_term.proofs.PartLaws.{take_at}
+use Rattle.tg_term.proofs.WalkLists.{height_at}
 use Rattle.tg_model.specs.Tree as model
-use Rattle.tg_model.specs.Tree.{Tree, Trees, bound, free, literal, truth, con, call, put, choice, case, bind, op}
+use Rattle.tg_model.specs.Tree.{Tree, Trees, bound, free, literal, truth, con, call, put, choice, case, bind, op, trees}
 use Rattle.tg_model.specs.Theory.{numbered}
 use Rattle.tg_model.specs.Value as sem
 use Rattle.tg_model.specs.Value.{Value, Values, number, boolean, made, values, wrong}
 use Rattle.tg_model.specs.Filling.{filled_term, fill, stands, stands_among, HaveVariables, IsMatch}
-use Rattle.tg_term.specs.Matching.{noted, collected, collected_all, all_of}
+use Rattle.std.specs.Borrow.{Bor}
+use Rattle.tg_term.specs.Values.{value}
+use Rattle.tg_term.specs.declared.values.Value as declared
+use Rattle.tg_term.specs.Matching.{held, unknown, noted, collected, collected_all, all_of}
 
 abbrev Slots : Type 0
 Slots = List (Option Value)
@@ -176,15 +183,10 @@ all_set (Some w ∷ s) (v ∷ vs) len h k =
 all_length : (s : Slots) (vs : List Value) → all_of s ≡ Some vs → length vs ≡ length s
 all_length [] vs e = ap length (sym (same_Some [] vs e))
 all_length (None ∷ s) vs e = absurd (none-some vs e)
-all_length (Some w ∷ s) vs e = go (all_of s) refl e where
-  go : (o : Option (List Value)) → all_of s ≡ o → option_map (λ us. w ∷ us) o ≡ Some vs → length vs ≡ suc (length s)
-  go None q e' = absurd (none-some vs e')
-  go (Some us) q e' = ap length (sym (same_Some (w ∷ us) vs e')) ∙ ap suc (all_length s us q)
-
--- nothing is known yet
-abbrev pub unknown : ℕ → Slots
-unknown zero = []
-unknown (suc n) = None ∷ unknown n
+all_length (Some w ∷ s) vs e = go (all_of s) (all_length s) e where
+  go : (o : Option (List Value)) → ((us : List Value) → o ≡ Some us → length us ≡ length s) → option_map (λ us. w ∷ us) o ≡ Some vs → length vs ≡ suc (length s)
+  go None h e' = absurd (none-some vs e')
+  go (Some us) h e' = ap length (sym (same_Some (w ∷ us) vs e')) ∙ ap suc (h us refl)
 
 unknown_length : (n : ℕ) → length (unknown n) ≡ n
 unknown_length zero = refl
@@ -212,7 +214,7 @@ module _ (n : ℕ) (ts : Trees) (inputs : List Value) (each : HaveVariables n ts
   no_match e = λ vs len f. none-some vs (sym e ∙ only_one vs len f)
 
   pub no_fill : (ws : List Value) → all_of noticed ≡ Some ws → ¬ (fill ws ts ≡ inputs) → IsMatch n ts inputs None
-  no_fill ws e no = λ vs len f. let same : ws ≡ vs = same_Some ws vs (sym e ∙ only_one vs len f) in no (ap (λ us. fill us ts) same ∙ f)
+  no_fill ws e other = λ vs len f. let same : ws ≡ vs = same_Some ws vs (sym e ∙ only_one vs len f) in other (ap (λ us. fill us ts) same ∙ f)
 
   pub match : (ws : List Value) → all_of noticed ≡ Some ws → fill ws ts ≡ inputs → IsMatch n ts inputs (Some ws)
   match ws e f = (
@@ -220,3 +222,74 @@ module _ (n : ℕ) (ts : Trees) (inputs : List Value) (each : HaveVariables n ts
     f,
     λ vs len g. same_Some vs ws (sym (only_one vs len g) ∙ e),
   )
+
+pub unknown_more : (n : ℕ) → unknown n ++ None ∷ [] ≡ unknown (n + 1)
+unknown_more n = go n ∙ ap unknown (sym (add-one n)) where
+  go : (k : ℕ) → unknown k ++ None ∷ [] ≡ unknown (suc k)
+  go zero = refl
+  go (suc k) = ap (λ s. None ∷ s) (go k)
+
+-- what is noted of a variable, as the program notes it
+pub noted_past : (s : Slots) (n : ℕ) (v : Value) → length s < n → noted s n v ≡ s
+noted_past s zero v h = absurd (omega arith)
+noted_past s (suc k) v h = go s k (omega arith) where
+  go : (s : Slots) (k : ℕ) → length s ≤ k → slice_set s k (Some v) ≡ s
+  go [] k h = refl
+  go (x ∷ s) zero h = absurd (omega arith)
+  go (x ∷ s) (suc k) h = ap (λ l. x ∷ l) (go s k (omega arith))
+
+pub held_set : (s : List (Option (Bor declared.Value))) (k : ℕ) (b : Bor declared.Value) → map held (slice_set s k (Some b)) ≡ slice_set (map held s) k (Some (value b.now))
+held_set [] k b = refl
+held_set (x ∷ s) zero b = refl
+held_set (x ∷ s) (suc k) b = ap (λ l. held x ∷ l) (held_set s k b)
+
+-- the values that were found so far
+all_end : (s : Slots) (v : Value) → all_of (s ++ Some v ∷ []) ≡ option_map (λ vs. vs ++ v ∷ []) (all_of s)
+all_end [] v = refl
+all_end (None ∷ s) v = refl
+all_end (Some w ∷ s) v = ap (option_map (λ vs. w ∷ vs)) (all_end s v) ∙ go (all_of s) where
+  go : (o : Option (List Value)) → option_map (λ vs. w ∷ vs) (option_map (λ vs. vs ++ v ∷ []) o) ≡ option_map (λ vs. vs ++ v ∷ []) (option_map (λ vs. w ∷ vs) o)
+  go None = refl
+  go (Some vs) = refl
+
+pub taken_more : (s : List (Option (Bor declared.Value))) (i : ℕ) (b : Bor declared.Value) (us ws : List declared.Value) (w : declared.Value)
+    → slice_get s i ≡ Some (Some b) → ws ≡ us ++ w ∷ [] → w ≡ b.now → Some (map value us) ≡ all_of (map held (take i s))
+    → Some (map value ws) ≡ all_of (map held (take (i + 1) s))
+taken_more s i b us ws w e f g h =
+    ap (λ l. Some (map value l)) f ∙ ap Some (map-append value us (w ∷ [])) ∙ ap (λ x. Some (map value us ++ value x ∷ [])) g
+    ∙ ap (option_map (λ vs. vs ++ value b.now ∷ [])) h
+    ∙ sym (ap (λ l. all_of (map held l)) (ap (λ n. take n s) (add-one i) ∙ take_at s i (Some b) e) ∙ ap all_of (map-append held (take i s) (Some b ∷ []))
+    ∙ all_end (map held (take i s)) (value b.now))
+
+pub none_taken : (s : List (Option (Bor declared.Value))) (i : ℕ) → slice_get s i ≡ Some None → None ≡ all_of (map held s)
+none_taken [] i e = absurd (none-some _ e)
+none_taken (x ∷ s) zero e = ap (λ o. all_of (held o ∷ map held s)) (sym (same_Some x None e))
+none_taken (None ∷ s) (suc i) e = refl
+none_taken (Some b ∷ s) (suc i) e = ap (option_map (λ vs. value b.now ∷ vs)) (none_taken s i e)
+
+pub ruleset collecting = (held_set, noted_past, height_at)
+
+-- what the program notes, from how it holds it
+pub noticed_is : (terms terms' : List Tree) (ins : Values) (n m len : ℕ) (old items new r : List (Option (Bor declared.Value))) → terms' ≡ terms
+    → map held new ≡ collected_all (trees terms') ins (map held old) → old ≡ items → map held items ≡ unknown m → m ≡ n → length old ≡ len
+    → r ≡ take len (new ++ drop (length new) items) → all_of (map held r) ≡ all_of (collected_all (trees terms) ins (unknown n))
+noticed_is terms terms' ins n m len old items new r a b c d e f g =
+    let as_many : length new ≡ length old =
+    sym (length-map new held) ∙ ap length b ∙ all_length_kept [] (trees terms') ins (map held old) ∙ length-map old held in
+    let none : drop (length new) items ≡ [] = drop_all (length new) items (let k = ap length c in omega arith) in
+    let same : r ≡ new = g ∙ ap (λ l. take len (new ++ l)) none ∙ ap (take len) (append-nil new) ∙ take_all len new (omega arith) in
+    ap (λ l. all_of (map held l)) same ∙ ap all_of (b ∙ (λ i. collected_all (trees (a i)) ins (map held (c i))) ∙ ap (collected_all (trees terms) ins) (d ∙ ap unknown e))
+
+elements_values : (vs : List Value) → sem.elements (values vs) ≡ vs
+elements_values [] = refl
+elements_values (v ∷ vs) = ap (λ l. v ∷ l) (elements_values vs)
+
+pub equal_values : (vs ws : List Value) → sem.same_values (values vs) (values ws) ≡ true → vs ≡ ws
+equal_values vs ws e =
+    sym (elements_values vs) ∙ ap sem.elements (made_arguments 0 0 (values vs) (values ws) ((decides_equality (made 0 (values vs)) (made 0 (values ws))).0 e))
+    ∙ elements_values ws
+
+pub other_values : (vs ws : List Value) → sem.same_values (values vs) (values ws) ≡ false → ¬ (vs ≡ ws)
+other_values vs ws e same =
+    let yes : sem.same_values (values vs) (values ws) ≡ true = (decides_equality (made 0 (values vs)) (made 0 (values ws))).1 (ap (λ l. made 0 (values l)) same) in
+    let clash : false ≡ true = sym e ∙ yes in cc

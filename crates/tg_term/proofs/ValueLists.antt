@@ -45,5 +45,7 @@ other_lengths (v ∷ vs) (w ∷ ws) h =
     and_false (sem.same_value (value v) (value w)) ∙ ap (λ b. sem.same_value (value v) (value w) && b) (other_lengths vs ws (λ e. h (ap suc e)))
 
 pub ruleset compared = (value-Nat, value-Bool, value-Con, same_truths)
+
 pub ruleset filling = (value-Nat, value-Bool, value-Con, height_at, fill_trees)
+
 pub ruleset numbering = (value-Bool, value_there, no_value_there)

@@ -11,6 +11,11 @@ use Rattle.tg_term.specs.declared.values.Value.{Value}
 abbrev pub held : Option (Bor Value) → Option model.Value
 held o = option_map (λ (b : Bor Value). value b.now) o
 
+-- nothing is known of as many variables
+abbrev pub unknown : ℕ → List (Option model.Value)
+unknown zero = []
+unknown (suc n) = None ∷ unknown n
+
 -- what is known of the variable `?n`
 abbrev pub noted : List (Option model.Value) → ℕ → model.Value → List (Option model.Value)
 noted s zero v = s

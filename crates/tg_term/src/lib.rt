@@ -18,7 +18,7 @@ mod walking;
 
 pub use classes::{Class, Outcome, Pattern, Test};
 pub use comparing::same;
-pub use filling::fill;
+pub use filling::{fill, matches};
 pub use formula_walking::{abstract_formula, close_formula, instantiate_formula, subst_formula};
 pub use formulas::{Formula, FormulaNode};
 pub use substituting::{abstract_var, instantiate, lift, subst};

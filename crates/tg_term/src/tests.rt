@@ -1,6 +1,7 @@
 use crate::{
-    Branch, Formula, FormulaNode, Node, Term, abstract_formula, abstract_var, close_formula,
-    instantiate, instantiate_formula, lift, same, subst, subst_formula,
+    Branch, Formula, FormulaNode, Node, Pattern, Term, Value, abstract_formula, abstract_var,
+    close_formula, depth, fill, instantiate, instantiate_formula, lift, matches, same, subst,
+    subst_formula,
 };
 use sqlite_items::Items;
 use std::alloc::{AllocError, Global};
@@ -266,5 +267,56 @@ fn a_count_of_nodes_stops_at_its_end(rt: HostRuntime) -> Result<(), Fail> {
         t = term(alloc, Node::Op(9, terms))?;
     }
     assert!(rt; measures(&t, u64::MAX, 64, 0));
+    Ok(())
+}
+
+/// `(Cons 4 Nil)` and `Nil`, where these are the constructors 2 and 1.
+fn list_of_four(alloc: Global) -> Result<Value, AllocError> {
+    let mut values = Items::new(alloc);
+    values.push(Value::Nat(4))?;
+    values.push(empty_list(alloc))?;
+    Ok(Value::Con(2, values))
+}
+
+fn empty_list(alloc: Global) -> Value {
+    Value::Con(1, Items::new(alloc))
+}
+
+/// `(Cons ?1 Nil)`.
+fn list_of_one(alloc: Global) -> Result<Pattern, AllocError> {
+    let nil = term(alloc, Node::Con(1, Items::new(alloc)))?;
+    let cons = Node::Con(2, pair(alloc, term(alloc, Node::Free(1))?, nil)?);
+    let mut vars = Items::new(alloc);
+    vars.push(Ty::Nat)?;
+    Ok(Pattern {
+        terms: single(alloc, term(alloc, cons)?)?,
+        vars,
+    })
+}
+
+#[test]
+fn a_pattern_matches_what_it_is_filled_to(rt: HostRuntime) -> Result<(), Fail> {
+    let alloc = rt.alloc();
+    let pattern = list_of_one(alloc)?;
+    let mut inputs = Vec::new(alloc);
+    inputs.push(list_of_four(alloc)?)?;
+    let found = matches(alloc, &pattern, inputs.as_slice())?;
+    assert!(rt; matches!(&found, Some(vs) if matches!(vs.as_slice(), [Value::Nat(4)])));
+    let mut values = Vec::new(alloc);
+    values.push(Value::Nat(4))?;
+    let filled = fill(alloc, &pattern, values.as_slice())?;
+    assert!(rt; matches!(filled.as_slice(), [Value::Con(2, vs)] if vs.len() == 2));
+    let mut inputs = Vec::new(alloc);
+    inputs.push(empty_list(alloc))?;
+    assert!(rt; matches(alloc, &pattern, inputs.as_slice())?.is_none());
+    Ok(())
+}
+
+#[test]
+fn depth_counts_constructors(rt: HostRuntime) -> Result<(), Fail> {
+    let alloc = rt.alloc();
+    assert_eq!(rt; depth(&Value::Nat(7)), 0);
+    assert_eq!(rt; depth(&empty_list(alloc)), 1);
+    assert_eq!(rt; depth(&list_of_four(alloc)?), 2);
     Ok(())
 }

@@ -1,5 +1,5 @@
 -- Arguments can be walked as they stand, without the substitution put into them first: the walk puts it in at each pair.
-use Rattle.std.proofs.Common.{ℕ, ◌≡◌, suc, true, List, [], ◌∷◌, ◌++◌, append_assoc, append-nil, nat_eq, refl, ap, sym, ◌∙◌, subst}
+use Rattle.std.proofs.Common.{ℕ, ◌≡◌, suc, true, [], ◌∷◌, ◌++◌, append_assoc, append-nil, nat_eq, refl, ap, sym, ◌∙◌}
 use Rattle.std.proofs.lemmas.Bool.{eq-eqb}
 use Rattle.tg_model.specs.Types.{Ty, Tys, applied, none, more}
 use Rattle.tg_types.specs.Substitutions.{Assignment, at, all_at, Substitution, apply, put, given, IsWhole, Continues}
