@@ -7,6 +7,9 @@ pub mod ClosedValues
 pub mod Constructors
 pub mod Contexts
 pub mod Equalities
+pub mod ClosedTruth
+pub mod KnownClosures
+pub mod KnownFillings
 pub mod Freshness
 pub mod Inhabited
 pub mod Instances

@@ -18,3 +18,5 @@ pub mod Walk
 pub mod Laws
 pub mod CallLaws
 pub mod TypeLaws
+pub mod Closing
+pub mod Filling

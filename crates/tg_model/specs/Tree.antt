@@ -20,6 +20,11 @@ pub data Operator : Type 0 where
   unnamed : (n : ℕ) → Operator
   deriving Discrete as operator_discrete
 
+-- the operators with a name, each at the place, from 1, that is its number
+abbrev pub operators : List Operator
+operators =
+    successor ∷ negation ∷ conjunction ∷ disjunction ∷ implication ∷ equality ∷ less ∷ less_equal ∷ plus ∷ minus ∷ times ∷ divide ∷ modulo ∷ []
+
 mutual
   -- `bound k` counts binders from the inside, from 0; `free n` is the variable `?n`, from 1
   pub data Tree : Type 0 where

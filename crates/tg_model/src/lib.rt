@@ -15,6 +15,7 @@ ghost use Rattle.tg_model.specs.CallLaws.{DefinitionsAreBodies, RecursionsAreBod
 ghost use Rattle.tg_model.specs.TypeLaws.{InstanceKeepsTypes, IsTypeSoundAt, TruthHasOneType, TypesDependOnUsed, FormDependsOnUsed};
 ghost use Rattle.tg_model.specs.TypeLaws.{UsedHaveTypes, UsedInFormulasHaveTypes, ContextsGrow, ContextsGrowForm, IsClosedValue};
 ghost use Rattle.tg_model.specs.TypeLaws.{LeastHasType, ValuesAreMade, NumbersArePlaces, CasesAreDeclared};
+ghost use Rattle.tg_model.specs.Closing.{ClosureIsUniversal, ClosureIsExistential};
 
 /// The meaning of calls, as equations: a primitive recursive call is the body of its constructor's case,
 /// and a call of a declared function is its body. The definition counts a number down, and this says
@@ -132,4 +133,11 @@ pub fn branches()
 /// program, and is what it is lifted and instantiated to.
 pub fn made_terms()
     ensures { MadeTermsStay }
+{}
+
+/// The closures of a formula: `ALL` or `EX` of its variables' types, in their order, round the formula
+/// with all its variables bound at once.
+pub fn closures()
+    ensures universal { ClosureIsUniversal }
+    ensures existential { ClosureIsExistential }
 {}

@@ -1,4 +1,9 @@
 pub mod Compared
+pub mod MatchLaws
+pub mod MeasureLaws
+pub mod PartLaws
 pub mod Substituted
 pub mod Unmoved
+pub mod ValueLists
+pub mod WalkLaws
 pub mod WalkLists

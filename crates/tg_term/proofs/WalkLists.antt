@@ -3,7 +3,7 @@ use Rattle.std.proofs.Common.{ℕ, zero, suc, ◌≡◌, ◌<◌, ◌+◌, List,
 use Rattle.tg_model.specs.Tree as model
 use Rattle.tg_model.specs.Tree.{Tree, Trees, Arms, trees}
 use Rattle.tg_model.specs.Walk.{walk, walk_all, walk_arms}
-use Rattle.tg_term.specs.Height.{height, heights, heights_of}
+use Rattle.tg_term.specs.Measures.{height, heights, heights_within}
 use Rattle.tg_term.specs.View.{arms}
 use Rattle.tg_term.specs.declared.terms.Branch.{Branch}
 
@@ -12,7 +12,7 @@ height_at [] i d h = absurd (omega arith)
 height_at (t ∷ ts) zero d h = omega arith
 height_at (t ∷ ts) (suc i) d h = let k = height_at ts i d (omega arith) in omega arith
 
-pub branch_height_at : (bs : List Branch) (i : ℕ) (d : Branch) → i < length bs → height (get_or bs i d).body < heights_of (arms bs)
+pub branch_height_at : (bs : List Branch) (i : ℕ) (d : Branch) → i < length bs → height (get_or bs i d).body < heights_within (arms bs)
 branch_height_at [] i d h = absurd (omega arith)
 branch_height_at (b ∷ bs) zero d h = omega arith
 branch_height_at (b ∷ bs) (suc i) d h = let k = branch_height_at bs i d (omega arith) in omega arith
@@ -22,11 +22,4 @@ module _ (on_bound on_free : ℕ → ℕ → Tree) where
   walk_trees n [] = refl
   walk_trees n (t ∷ ts) = ap (model.more (walk on_bound on_free n t)) (walk_trees n ts)
 
-  abbrev pub walked_branch : ℕ → Branch → Branch
-  walked_branch n b = record { vars = b.vars; body = walk on_bound on_free (n + b.vars) b.body }
-
-  pub walk_branches : (n : ℕ) (bs : List Branch) → arms (map (walked_branch n) bs) ≡ walk_arms on_bound on_free n (arms bs)
-  walk_branches n [] = refl
-  walk_branches n (b ∷ bs) = ap (model.arm b.vars (walk on_bound on_free (n + b.vars) b.body)) (walk_branches n bs)
-
-pub ruleset walked = (height_at, branch_height_at, walk_trees, walk_branches)
+pub ruleset walked = (walk_trees)

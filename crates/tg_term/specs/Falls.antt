@@ -3,7 +3,7 @@ use Rattle.std.specs.Prelude.{◌+◌, ◌≤◌, max, List, [], ◌∷◌}
 use Rattle.std.proofs.Common.{arith}
 use denote.Param.Weighed.{most}
 use Rattle.tg_model.specs.Tree.{Tree, trees}
-use Rattle.tg_term.specs.Height.{height, heights, heights_of}
+use Rattle.tg_term.specs.Measures.{height, heights, heights_within}
 use Rattle.tg_term.specs.View.{tree, arms}
 use Rattle.tg_term.specs.declared.terms.Branch.{Branch}
 use Rattle.tg_term.specs.declared.terms.Node.{Node}
@@ -14,11 +14,11 @@ pub most_trees : (ts : List Tree) → most (λ t. height t + 1) ts ≤ heights (
 most_trees [] = omega arith
 most_trees (t ∷ ts) = omega (arith, most_trees ts)
 
-pub most_arms : (bs : List Branch) → most deep-Branch bs ≤ heights_of (arms bs)
+pub most_arms : (bs : List Branch) → most deep-Branch bs ≤ heights_within (arms bs)
 most_arms [] = omega arith
 most_arms (b ∷ bs) = omega (arith, most_arms bs)
 
-pub falls : (n : Node) → max (deep-Node n) 0 ≤ height (tree n)
+pub falls : (n : Node) → max (max (deep-Node n) 0) 0 ≤ height (tree n)
 falls (Bound k) = omega arith
 falls (Free n) = omega arith
 falls (Lit n) = omega arith

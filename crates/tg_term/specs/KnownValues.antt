@@ -3,7 +3,7 @@ use Rattle.std.specs.Prelude.{◌≡◌, [], ◌∷◌, true}
 use Rattle.std.proofs.Common.{refl}
 use Rattle.tg_model.specs.Tree as trees
 use Rattle.tg_model.specs.Tree.{Tree, more, none, one, two}
-use Rattle.tg_term.specs.Height.{height}
+use Rattle.tg_term.specs.Measures.{height}
 use Rattle.tg_term.specs.Operators.{operator}
 use Rattle.tg_term.specs.View.{tree}
 use Rattle.tg_term.specs.declared.terms.Node.TheVariants.{Lit, Con, Put, If, Case, Let, Op}

@@ -1,11 +1,16 @@
 pub mod Classes
 pub mod Code
 pub mod Falls
+pub mod FormulaCode
+pub mod FormulaFalls
+pub mod FormulaMeasures
 pub mod Formulas
-pub mod Height
+pub mod Matching
+pub mod Measures
 pub mod KnownFormulas
 pub mod KnownValues
 pub mod Operators
+pub mod Parts
 pub mod Substituting
 pub mod Values
 pub mod View

@@ -1,23 +1,13 @@
--- The operators by their numbers.
-use Rattle.std.specs.Prelude.{◌≡◌, ℕ, zero, suc, refl}
-use Rattle.tg_model.specs.Tree.{Operator, successor, negation, conjunction, disjunction, implication, equality, less, less_equal, plus, minus, times, divide, modulo, unnamed}
+-- The operators by their numbers: an operator's number is its place, from 1, in the list of those with a name.
+use Rattle.std.specs.Prelude.{◌≡◌, ℕ, zero, suc, ◌+◌, List, [], ◌∷◌, slice_get, unwrap_or, refl}
+use Rattle.std.proofs.Common.{ap, ◌∙◌, arith}
+use Rattle.tg_model.specs.Theory.{numbered}
+use Rattle.tg_model.specs.Tree.{Operator, operators, successor, negation, conjunction, disjunction, implication, equality, less, less_equal, plus, minus, times, divide, modulo, unnamed}
 
 abbrev pub operator : ℕ → Operator
-operator (suc zero) = successor
-operator (suc (suc zero)) = negation
-operator (suc (suc (suc zero))) = conjunction
-operator (suc (suc (suc (suc zero)))) = disjunction
-operator (suc (suc (suc (suc (suc zero))))) = implication
-operator (suc (suc (suc (suc (suc (suc zero)))))) = equality
-operator (suc (suc (suc (suc (suc (suc (suc zero))))))) = less
-operator (suc (suc (suc (suc (suc (suc (suc (suc zero)))))))) = less_equal
-operator (suc (suc (suc (suc (suc (suc (suc (suc (suc zero))))))))) = plus
-operator (suc (suc (suc (suc (suc (suc (suc (suc (suc (suc zero)))))))))) = minus
-operator (suc (suc (suc (suc (suc (suc (suc (suc (suc (suc (suc zero))))))))))) = times
-operator (suc (suc (suc (suc (suc (suc (suc (suc (suc (suc (suc (suc zero)))))))))))) = divide
-operator (suc (suc (suc (suc (suc (suc (suc (suc (suc (suc (suc (suc (suc zero))))))))))))) = modulo
-operator n = unnamed n
+operator n = unwrap_or (numbered operators n) (unnamed n)
 
+-- the number back
 abbrev pub operator_number : Operator → ℕ
 operator_number successor = 1
 operator_number negation = 2
@@ -34,20 +24,18 @@ operator_number divide = 12
 operator_number modulo = 13
 operator_number (unnamed n) = n
 
+-- the operators of a list have the numbers from `k` on
+abbrev AreNumbered : ℕ → List Operator → Type 0
+AreNumbered k [] = Unit {0}
+AreNumbered k (o ∷ os) = (operator_number o ≡ k) × AreNumbered (suc k) os
+
+number_at : (os : List Operator) (k i n : ℕ) → AreNumbered k os → n ≡ k + i → operator_number (unwrap_or (slice_get os i) (unnamed n)) ≡ n
+number_at [] k i n h e = refl
+number_at (o ∷ os) k zero n h e = h.0 ∙ (let s : k ≡ n = omega arith in s)
+number_at (o ∷ os) k (suc i) n h e = number_at os (suc k) i n h.1 (omega arith)
+
 -- the operator of a number gives the number back
 pub operator_number-operator : (n : ℕ) → operator_number (operator n) ≡ n
 operator_number-operator zero = refl
-operator_number-operator (suc zero) = refl
-operator_number-operator (suc (suc zero)) = refl
-operator_number-operator (suc (suc (suc zero))) = refl
-operator_number-operator (suc (suc (suc (suc zero)))) = refl
-operator_number-operator (suc (suc (suc (suc (suc zero))))) = refl
-operator_number-operator (suc (suc (suc (suc (suc (suc zero)))))) = refl
-operator_number-operator (suc (suc (suc (suc (suc (suc (suc zero))))))) = refl
-operator_number-operator (suc (suc (suc (suc (suc (suc (suc (suc zero)))))))) = refl
-operator_number-operator (suc (suc (suc (suc (suc (suc (suc (suc (suc zero))))))))) = refl
-operator_number-operator (suc (suc (suc (suc (suc (suc (suc (suc (suc (suc zero)))))))))) = refl
-operator_number-operator (suc (suc (suc (suc (suc (suc (suc (suc (suc (suc (suc zero))))))))))) = refl
-operator_number-operator (suc (suc (suc (suc (suc (suc (suc (suc (suc (suc (suc (suc zero)))))))))))) = refl
-operator_number-operator (suc (suc (suc (suc (suc (suc (suc (suc (suc (suc (suc (suc (suc zero))))))))))))) = refl
-operator_number-operator (suc (suc (suc (suc (suc (suc (suc (suc (suc (suc (suc (suc (suc (suc n)))))))))))))) = refl
+operator_number-operator (suc n) =
+    number_at operators 1 n (suc n) (refl, (refl, (refl, (refl, (refl, (refl, (refl, (refl, (refl, (refl, (refl, (refl, (refl, tt))))))))))))) (omega arith)

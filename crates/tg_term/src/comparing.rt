@@ -5,6 +5,7 @@ use crate::terms::{Branch, Node, Term};
 
 /// Whether two terms are equal. It takes no memory.
 ///
+/// Terms of other sizes are told apart at once, by what they know of themselves.
 /// Two terms that share their node are walked over like any others: the kit's `Rc::ptr_eq` promises nothing
 /// of the values behind two equal pointers.
 #[cycle(same)]
@@ -12,6 +13,9 @@ use crate::terms::{Branch, Node, Term};
 pub fn same(a: &Term, b: &Term) -> bool
     ensures { IsTrue result ↔ (a.now ≡ b.now) }
 {
+    if a.nodes() != b.nodes() || a.height() != b.height() {
+        return false;
+    }
     match (a.node(), b.node()) {
         (Node::Bound(i), Node::Bound(j)) => i == j,
         (Node::Free(m), Node::Free(n)) => m == n,

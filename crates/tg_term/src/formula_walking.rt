@@ -1,25 +1,25 @@
-//! The walk over formulas, and substitution, instantiation and abstraction in them. A formula has memory
-//! of its own, so its connectives are copied; its terms are shared where nothing in them is replaced.
-ghost use Rattle.std.specs.Prelude.{◌≡◌, ◌+◌, IfOk};
-ghost use Rattle.tg_model.specs.Tree.{trees};
-ghost use Rattle.tg_model.specs.Walk.{walk, walk_all, walk_formula};
+//! The walk over formulas, and substitution, instantiation, abstraction and closing in them. A part in
+//! which nothing is replaced is handed on as it is.
+ghost use Rattle.std.specs.Prelude.{◌≡◌, IfOk, Some, unwrap_or};
+ghost use Rattle.tg_model.specs.Closing.{closed};
+ghost use Rattle.tg_model.specs.Walk.{walk_formula};
 ghost use Rattle.tg_term.specs.Formulas.{formula};
 ghost use Rattle.tg_term.specs.Substituting.{IsSubstitutedFormula, IsInstantiatedFormula, IsAbstractedFormula};
 
-use crate::formulas::Formula;
-use crate::substituting::{Abstraction, Arguments, Terms};
+use crate::formulas::{Formula, FormulaNode};
+use crate::substituting::{Abstraction, Arguments, Closing, Terms};
 use crate::terms::Term;
-use crate::walking::{Replace, or_shared, shared_terms, walk_at, walk_list, within};
-use sqlite_items::{Boxed, Items};
+use crate::walking::{Replace, walk_at, walk_list, within};
 use std::alloc::{AllocError, Global};
 use tg_types::copy;
 
 /// Each `Free(n)` becomes `vars[n - 1]`, lifted over the quantifiers and binders round it.
 #[tactic(auto, using(crate::proofs::Substituted::kept))]
 pub fn subst_formula(alloc: Global, f: &Formula, vars: &[Term]) -> Result<Formula, AllocError>
-    ensures { IfOk result (λ g. IsSubstitutedFormula vars.now (formula f.now) (formula g)) }
+    ensures { IfOk result (λ g. IsSubstitutedFormula vars.now f.now g) }
 {
-    walk_formula_at(alloc, &Terms { terms: vars }, f, 0)
+    let walked = walk_formula_at(alloc, &Terms { terms: vars }, f, 0)?;
+    formula_or_shared(f, walked)
 }
 
 /// The last argument stands for the loose `Bound(0)`, the one before it for `Bound(1)` and so on. Other
@@ -30,85 +30,115 @@ pub fn instantiate_formula(
     body: &Formula,
     args: &[Term],
 ) -> Result<Formula, AllocError>
-    ensures { IfOk result (λ g. IsInstantiatedFormula args.now (formula body.now) (formula g)) }
+    ensures { IfOk result (λ g. IsInstantiatedFormula args.now body.now g) }
 {
-    walk_formula_at(alloc, &Arguments { terms: args }, body, 0)
+    let walked = walk_formula_at(alloc, &Arguments { terms: args }, body, 0)?;
+    formula_or_shared(body, walked)
 }
 
 /// Loose bound variables go up by 1, and `Free(n)` becomes the loose `Bound(0)`.
 #[tactic(auto, using(crate::proofs::Substituted::kept))]
 pub fn abstract_formula(alloc: Global, f: &Formula, n: u32) -> Result<Formula, AllocError>
-    ensures { IfOk result (λ g. IsAbstractedFormula n (formula f.now) (formula g)) }
+    ensures { IfOk result (λ g. IsAbstractedFormula n f.now g) }
 {
-    walk_formula_at(alloc, &Abstraction { number: n }, f, 0)
+    let walked = walk_formula_at(alloc, &Abstraction { number: n }, f, 0)?;
+    formula_or_shared(f, walked)
 }
 
+/// Each of `?1` to `?count` becomes the bound variable of one of as many quantifiers that the caller puts
+/// round the formula, `?1` that of the outermost. Loose bound variables go up by `count`. One walk closes
+/// all variables, where one call of `abstract_formula` for each would walk over the formula each time.
+pub fn close_formula(alloc: Global, f: &Formula, count: u32) -> Result<Formula, AllocError>
+    ensures { IfOk result (λ g. g ≡ closed count f.now) }
+{
+    let walked = walk_formula_at(alloc, &Closing { count }, f, 0)?;
+    formula_or_shared(f, walked)
+}
+
+/// The formula that the walk gives, or `None` where nothing in it is replaced.
 #[cycle(walk_formula)]
-#[tactic(auto, using(crate::specs::Formulas::formula_laws))]
 fn walk_formula_at<R: Replace>(
     alloc: Global,
     r: &R,
     f: &Formula,
     depth: u64,
-) -> Result<Formula, AllocError>
-    ensures { IfOk result (λ g. formula g ≡ walk_formula (R.on_bound r.now) (R.on_free r.now) depth (formula f.now)) }
+) -> Result<Option<Formula>, AllocError>
+    ensures { IfOk result (λ o. unwrap_or o f.now ≡ walk_formula (R.on_bound r.now) (R.on_free r.now) depth f.now) }
 {
-    match f {
-        Formula::Atom(t) => Ok(Formula::Atom(walked_term(alloc, r, t, depth)?)),
-        Formula::And(f, g) => {
-            let f = walk_boxed(alloc, r, f, depth)?;
-            Ok(Formula::And(f, walk_boxed(alloc, r, g, depth)?))
+    if r.leaves(f.loose_range(), depth) {
+        return Ok(None);
+    }
+    match f.node() {
+        FormulaNode::Atom(t) => match walk_at(alloc, r, t, depth)? {
+            Some(t) => made(alloc, FormulaNode::Atom(t)),
+            None => Ok(None),
+        },
+        FormulaNode::And(f, g) => {
+            let left = walk_formula_at(alloc, r, f, depth)?;
+            let right = walk_formula_at(alloc, r, g, depth)?;
+            match both_or_none(f, left, g, right)? {
+                Some((f, g)) => made(alloc, FormulaNode::And(f, g)),
+                None => Ok(None),
+            }
         }
-        Formula::Imp(f, g) => {
-            let f = walk_boxed(alloc, r, f, depth)?;
-            Ok(Formula::Imp(f, walk_boxed(alloc, r, g, depth)?))
+        FormulaNode::Imp(f, g) => {
+            let left = walk_formula_at(alloc, r, f, depth)?;
+            let right = walk_formula_at(alloc, r, g, depth)?;
+            match both_or_none(f, left, g, right)? {
+                Some((f, g)) => made(alloc, FormulaNode::Imp(f, g)),
+                None => Ok(None),
+            }
         }
-        Formula::All(t, f) => {
-            let f = walk_boxed(alloc, r, f, within(depth, 1)?)?;
-            Ok(Formula::All(copy(alloc, t)?, f))
-        }
-        Formula::Ex(t, g) => {
-            let g = walk_boxed(alloc, r, g, within(depth, 1)?)?;
-            Ok(Formula::Ex(copy(alloc, t)?, g))
-        }
-        Formula::Thyp(f) => Ok(Formula::Thyp(walk_boxed(alloc, r, f, depth)?)),
-        Formula::Tested(ts) => Ok(Formula::Tested(walked_terms(alloc, r, ts.as_slice(), depth)?)),
-        Formula::Deep(k, ts) => Ok(Formula::Deep(
-            *k,
-            walked_terms(alloc, r, ts.as_slice(), depth)?,
-        )),
+        FormulaNode::All(t, f) => match walk_formula_at(alloc, r, f, within(depth, 1)?)? {
+            Some(f) => made(alloc, FormulaNode::All(copy(alloc, t)?, f)),
+            None => Ok(None),
+        },
+        FormulaNode::Ex(t, g) => match walk_formula_at(alloc, r, g, within(depth, 1)?)? {
+            Some(g) => made(alloc, FormulaNode::Ex(copy(alloc, t)?, g)),
+            None => Ok(None),
+        },
+        FormulaNode::Thyp(f) => match walk_formula_at(alloc, r, f, depth)? {
+            Some(f) => made(alloc, FormulaNode::Thyp(f)),
+            None => Ok(None),
+        },
+        FormulaNode::Tested(ts) => match walk_list(alloc, r, ts.as_slice(), depth)? {
+            Some(us) => made(alloc, FormulaNode::Tested(us)),
+            None => Ok(None),
+        },
+        FormulaNode::Deep(k, ts) => match walk_list(alloc, r, ts.as_slice(), depth)? {
+            Some(us) => made(alloc, FormulaNode::Deep(*k, us)),
+            None => Ok(None),
+        },
     }
 }
 
-#[cycle(walk_formula)]
-fn walk_boxed<R: Replace>(
-    alloc: Global,
-    r: &R,
-    f: &Boxed<Formula>,
-    depth: u64,
-) -> Result<Boxed<Formula>, AllocError>
-    ensures { IfOk result (λ g. formula g ≡ walk_formula (R.on_bound r.now) (R.on_free r.now) depth (formula f.now)) }
+/// The two formulas that were walked to, or `None` where nothing in either was replaced.
+fn both_or_none(
+    f: &Formula,
+    left: Option<Formula>,
+    g: &Formula,
+    right: Option<Formula>,
+) -> Result<Option<(Formula, Formula)>, AllocError>
+    ensures { IfOk result (λ o. unwrap_or o (f.now, g.now) ≡ (unwrap_or left f.now, unwrap_or right g.now)) }
 {
-    Boxed::new(alloc, walk_formula_at(alloc, r, f.get(), depth)?)
+    if left.is_none() && right.is_none() {
+        return Ok(None);
+    }
+    Ok(Some((formula_or_shared(f, left)?, formula_or_shared(g, right)?)))
 }
 
-fn walked_term<R: Replace>(alloc: Global, r: &R, t: &Term, depth: u64) -> Result<Term, AllocError>
-    ensures { IfOk result (λ u. u ≡ walk (R.on_bound r.now) (R.on_free r.now) depth t.now) }
+fn made(alloc: Global, node: FormulaNode) -> Result<Option<Formula>, AllocError>
+    ensures { IfOk result (λ o. o ≡ Some (formula node)) }
 {
-    let walked = walk_at(alloc, r, t, depth)?;
-    or_shared(t, walked)
+    Ok(Some(Formula::new(alloc, node)?))
 }
 
-fn walked_terms<R: Replace>(
-    alloc: Global,
-    r: &R,
-    ts: &[Term],
-    depth: u64,
-) -> Result<Items<Term>, AllocError>
-    ensures { IfOk result (λ us. trees us ≡ walk_all (R.on_bound r.now) (R.on_free r.now) depth (trees ts.now)) }
+/// The formula that was walked to, or else the same formula.
+fn formula_or_shared(f: &Formula, walked: Option<Formula>) -> Result<Formula, AllocError>
+    ensures { IfOk result (λ g. g ≡ unwrap_or walked f.now) }
 {
-    match walk_list(alloc, r, ts, depth)? {
-        Some(us) => Ok(us),
-        None => shared_terms(alloc, ts),
+    match walked {
+        Some(g) => Ok(g),
+        None => f.share(),
     }
 }

@@ -3,19 +3,25 @@
 
 mod classes;
 mod comparing;
+mod filling;
 mod formula_walking;
 mod formulas;
+mod measuring;
+mod parts;
 mod substituting;
 mod terms;
 #[cfg(test)]
 mod tests;
+mod valued;
 mod values;
 mod walking;
 
 pub use classes::{Class, Outcome, Pattern, Test};
 pub use comparing::same;
-pub use formula_walking::{abstract_formula, instantiate_formula, subst_formula};
-pub use formulas::Formula;
+pub use filling::{fill, matches};
+pub use formula_walking::{abstract_formula, close_formula, instantiate_formula, subst_formula};
+pub use formulas::{Formula, FormulaNode};
 pub use substituting::{abstract_var, instantiate, lift, subst};
 pub use terms::{Branch, ConId, FunId, Node, OpId, Term};
+pub use valued::depth;
 pub use values::Value;

@@ -107,6 +107,11 @@ impl Replace for Lifting {
     ) -> Result<Option<Term>, AllocError> {
         Ok(None)
     }
+
+    #[tactic(auto, using(crate::proofs::Unmoved::left))]
+    fn leaves(&self, range: u64, depth: u64) -> bool {
+        range <= depth
+    }
 }
 
 /// The terms that stand for free variables.
@@ -136,6 +141,10 @@ impl Replace for Terms<'_> {
             Some(u) => Ok(Some(lift_over(alloc, u, depth)?)),
             None => Ok(Some(Term::new(alloc, Node::Truth(false))?)),
         }
+    }
+
+    fn leaves(&self, _range: u64, _depth: u64) -> bool {
+        false
     }
 }
 
@@ -183,6 +192,11 @@ impl Replace for Arguments<'_> {
     ) -> Result<Option<Term>, AllocError> {
         Ok(None)
     }
+
+    #[tactic(auto, using(crate::proofs::Unmoved::left))]
+    fn leaves(&self, range: u64, depth: u64) -> bool {
+        range <= depth
+    }
 }
 
 /// The item of a place counted from the end, from 0.
@@ -225,5 +239,46 @@ impl Replace for Abstraction {
         } else {
             Ok(None)
         }
+    }
+
+    fn leaves(&self, _range: u64, _depth: u64) -> bool {
+        false
+    }
+}
+
+/// The number of free variables, from the first, that are bound by quantifiers round the formula.
+#[derive(Clone, Copy, Debug)]
+pub(crate) struct Closing {
+    pub(crate) count: u32,
+}
+
+impl Replace for Closing {
+    ghost use Rattle.tg_model.specs.Walk.{raised};
+    ghost use Rattle.tg_model.specs.Closing.{bound_among};
+
+    ghost on_bound = { λ s. raised s.count };
+
+    ghost on_free = { λ s. bound_among s.count };
+
+    fn for_bound(&self, alloc: Global, depth: u64, index: u32) -> Result<Option<Term>, AllocError> {
+        if u64::from(index) < depth {
+            Ok(None)
+        } else {
+            raise(alloc, index, u64::from(self.count))
+        }
+    }
+
+    fn for_free(&self, alloc: Global, depth: u64, number: u32) -> Result<Option<Term>, AllocError> {
+        if number == 0 || self.count < number {
+            return Ok(None);
+        }
+        match depth.checked_add(u64::from(self.count - number)) {
+            Some(index) => bound_variable(alloc, index),
+            None => Err(AllocError),
+        }
+    }
+
+    fn leaves(&self, _range: u64, _depth: u64) -> bool {
+        false
     }
 }

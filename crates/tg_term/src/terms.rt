@@ -1,6 +1,8 @@
-ghost use Rattle.std.specs.Prelude.{◌≡◌, IfOk};
+ghost use Rattle.std.specs.Prelude.{◌≡◌, ◌≤◌, IfOk};
+ghost use Rattle.tg_term.specs.Measures.{nodes, height, loose_range, counted, measures, most_height};
 ghost use Rattle.tg_term.specs.View.{tree};
 
+use crate::measuring::{Measures, measured};
 use sqlite_items::Items;
 use std::alloc::{AllocError, Global};
 use std::marker::Model;
@@ -16,11 +18,23 @@ pub type FunId = u32;
 /// The number of an operator: its place, from 1, in `Suc ~ & | --> = < <= + - * div mod`.
 pub type OpId = u32;
 
+/// No term is higher than this. So what walks down a term, and what drops its last handle, needs a
+/// bounded part of the stack.
+pub(crate) const MAX_HEIGHT: u64 = 10_000;
+
 /// A term. It shares its node with the terms that `share` makes of it. A contract sees it as a tree.
 #[cycle(term)]
 #[derive(Debug, Drop)]
 pub struct Term {
-    node: Rc<Node>,
+    node: Rc<Shared>,
+}
+
+/// A node, with what its term knows of itself.
+#[cycle(term)]
+#[derive(Debug, Drop)]
+struct Shared {
+    measures: Measures,
+    node: Node,
 }
 
 /// What stands at the root of a term, and the terms below it.
@@ -72,24 +86,33 @@ impl Model for Term {
     ghost coded = { coded_tree };
 
     ghost use Rattle.tg_term.specs.View.{tree};
-    ghost use Rattle.tg_term.specs.Height.{height};
 
-    ghost view = { λ a. tree a.node.value };
+    ghost view = { λ a. tree a.node.value.node };
+
+    ghost use Rattle.tg_term.specs.Measures.{IsKnown, height};
+
+    ghost invariant = { λ a. IsKnown a.node.value.measures (tree a.node.value.node) };
 
     ghost size = { height };
 
     ghost use Rattle.tg_term.specs.Falls.{falls};
 
-    ghost size_decreases = { λ a h. falls a.node.value };
+    ghost size_decreases = { λ a h. falls a.node.value.node };
 }
 
 impl Term {
-    /// The term with this node.
+    /// The term with this node. A term that would be higher than 10,000 isn't made, which is answered as
+    /// want of memory.
     pub fn new(alloc: Global, node: Node) -> Result<Term, AllocError>
-        ensures { IfOk result (λ term. term ≡ tree node) }
+        ensures is { IfOk result (λ term. term ≡ tree node) }
+        ensures bounded { IfOk result (λ term. height term ≤ most_height) }
     {
+        let measures = measured(&node);
+        if measures.height > MAX_HEIGHT {
+            return Err(AllocError);
+        }
         Ok(Term {
-            node: Rc::new(alloc, node)?,
+            node: Rc::new(alloc, Shared { measures, node })?,
         })
     }
 
@@ -107,7 +130,37 @@ impl Term {
     pub fn node(&self) -> &Node
         ensures { tree result.now ≡ self.now }
     {
-        self.node.as_ref()
+        &self.node.as_ref().node
+    }
+
+    /// What the term knows of itself.
+    pub(crate) fn measures(&self) -> Measures
+        ensures is { result ≡ measures self.now }
+        ensures bounded { result.height ≤ most_height }
+    {
+        self.node.as_ref().measures
+    }
+
+    /// The number of nodes of the tree, a count that stops at 2^64 - 1. A branch counts as its body.
+    pub fn nodes(&self) -> u64
+        ensures { result ≡ counted (nodes self.now) }
+    {
+        self.node.as_ref().measures.nodes
+    }
+
+    /// The most steps from the root of the tree down to a leaf.
+    pub fn height(&self) -> u64
+        ensures is { result ≡ height self.now }
+        ensures bounded { result ≤ most_height }
+    {
+        self.node.as_ref().measures.height
+    }
+
+    /// One more than the greatest index of a loose bound variable, or 0 where none is loose.
+    pub fn loose_range(&self) -> u64
+        ensures { result ≡ loose_range self.now }
+    {
+        self.node.as_ref().measures.loose_range
     }
 }
 

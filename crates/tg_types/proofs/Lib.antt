@@ -2,3 +2,4 @@ mod SubstitutionLaws
 mod WalkLaws
 mod Arguments
 mod Steps
+pub mod PutLater

@@ -41,7 +41,7 @@ mutual
   ]
 
 -- what two types that meet so have in common under every assignment
-abbrev Means : Ty → Ty → Meeting → Type 0
+abbrev pub Means : Ty → Ty → Meeting → Type 0
 Means a b agree = a ≡ b
 Means a b (binds v u) = (holds v u ≡ false) × (((a ≡ meta v) × (b ≡ u)) ⊎ ((b ≡ meta v) × (a ≡ u)))
 Means a b (loops v u) = (θ : Assignment) → ¬ (at θ a ≡ at θ b)

@@ -2,6 +2,7 @@ pub mod Types
 pub mod Substitutions
 pub mod Unifiers
 pub mod Walks
+pub mod Arguments
 pub mod Code
 pub mod View
 pub mod Refusals

@@ -2,6 +2,7 @@
 ghost use Rattle.std.specs.Prelude.{◌≡◌, [], ◌∷◌, ◌++◌, length, take, IfOk, OnOk, OnErr};
 ghost use Rattle.tg_types.specs.Substitutions.{apply, IsWhole, IsFresh};
 ghost use Rattle.tg_types.specs.Types.{ty};
+ghost use Rattle.tg_types.specs.Arguments.{OnArguments};
 
 use super::copying::{copy, put};
 use super::types::Ty;
@@ -60,6 +61,21 @@ impl Subst {
             done = put(self.alloc, x, &done)?;
         }
         Ok(done)
+    }
+
+    /// The arguments of two types of one datatype, as they stand there: what is put into a type changes
+    /// no root that isn't open, so a walk over the types goes on with these, and puts it in further down.
+    pub(crate) fn arguments<'a>(&self, a: &'a Ty, b: &'a Ty) -> Option<(&'a [Ty], &'a [Ty])>
+        ensures { OnArguments self.now (ty a.now) (ty b.now) result }
+    {
+        // Only a method that reaches the field knows that nothing is left to put into what was put in.
+        let _agreements = &self.agreements;
+        match (a, b) {
+            (Ty::App(d, ts), Ty::App(e, us)) if *d == *e && ts.len() == us.len() => {
+                Some((ts.as_slice(), us.as_slice()))
+            }
+            _ => None,
+        }
     }
 
     /// Adds an agreement.

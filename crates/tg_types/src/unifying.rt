@@ -92,6 +92,9 @@ fn walk(s: &mut Subst, a: &Ty, b: &Ty, room: u64) -> Result<(), UnifyErr>
     if room == 0 {
         return Err(UnifyErr::Memory);
     }
+    if let Some((ts, us)) = s.arguments(a, b) {
+        return walk_all(s, ts, us, room - 1);
+    }
     let left = s.apply(a)?;
     let right = s.apply(b)?;
     match roots(&left, &right) {

@@ -1,6 +1,6 @@
 use Rattle.std.proofs.Common.{◌≡◌, ◌+◌, ◌*◌, take}
 use Rattle.tg_model.specs.Tree.{trees}
-use Rattle.tg_term.specs.Height.{height, heights, heights_of}
+use Rattle.tg_term.specs.Measures.{height, heights, heights_within}
 use Rattle.tg_term.specs.View.{arms}
 use Rattle.tg_term.proofs.comparing.+same.Given as goal
 
@@ -11,7 +11,7 @@ abbrev pub decreases-same_terms : goal.decreases-same_terms
 decreases-same_terms l = 2 * heights (trees l.ts.now)
 
 abbrev pub decreases-same_branches : goal.decreases-same_branches
-decreases-same_branches l = 2 * heights_of (arms l.bs.now)
+decreases-same_branches l = 2 * heights_within (arms l.bs.now)
 
 abbrev pub invariant-same_terms-loop-i : goal.invariant-same_terms-loop-i
 invariant-same_terms-loop-i l = take l.i l.ts ≡ take l.i l.us

@@ -10,7 +10,10 @@ pub walk-agree-requires : goal.walk-agree-requires
 walk-agree-requires t c = got_fresh _ _ _ _ _ c.in_ok-left.ensures.applied c.in_ok-right.ensures.applied _ _ c.in_ok-left.ensures.whole c.in-Binds.ensures
 
 pub walk-walk_all-requires : goal.walk-walk_all-requires
-walk-walk_all-requires t c =
+walk-walk_all-requires t c = (omega (arith, c.decreases, c.if-room-eq0.false), c.in-Some.ensures.0)
+
+pub walk-walk_all-requires-in-Inside : goal.walk-walk_all-requires-in-Inside
+walk-walk_all-requires-in-Inside t c =
     (omega (arith, c.decreases, c.if-room-eq0.false), long_enough (ty c.in_ok-left.left) (ty c.in_ok-right.right) c.in-Inside.ts.now c.in-Inside.us.now c.in-Inside.ensures)
 
 pub walk-returns-in-Agree-clause-walked : goal.walk-returns-in-Agree-clause-walked
@@ -28,7 +31,7 @@ walk-returns-in_ok-ty-in-Loops-clause-walked t c =
 pub walk-returns-in-Inside-clause-walked : goal.walk-returns-in-Inside-clause-walked
 walk-returns-in-Inside-clause-walked t c =
     ends_through (Walks c.args.s.now (types c.in-Inside.ts.now) (types c.in-Inside.us.now)) (Walk c.args.s.now (ty c.args.a.now) (ty c.args.b.now))
-    (λ r h. got_inside _ _ _ _ _ c.in_ok-left.ensures.applied c.in_ok-right.ensures.applied _ _ r c.in-Inside.ensures h) _ _ c.walk_all.ensures.walked
+    (λ r h. got_inside _ _ _ _ _ c.in_ok-left.ensures.applied c.in_ok-right.ensures.applied _ _ r c.in-Inside.ensures h) _ _ c.walk_all-in-Inside.ensures.walked
 
 pub walk-returns-in-Differ-clause-walked : goal.walk-returns-in-Differ-clause-walked
 walk-returns-in-Differ-clause-walked t c = got_differ _ _ _ _ _ c.in_ok-left.ensures.applied c.in_ok-right.ensures.applied c.in-Differ.ensures

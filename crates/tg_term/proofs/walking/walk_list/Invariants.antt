@@ -1,0 +1,9 @@
+use Rattle.std.proofs.Common.{◌≡◌, false, map, take}
+use Rattle.tg_model.specs.Walk.{walk}
+use Rattle.tg_term.proofs.walking.walk_list.Given as goal
+
+abbrev pub invariant-loop-t : goal.invariant-loop-t
+invariant-loop-t g l = record {
+  walked : l.out.items ≡ map (walk (g.R.Replace.on_bound l.r) (g.R.Replace.on_free l.r) l.depth) (take l.t-index l.ts);
+  same : l.replaced ≡ false → l.out.items ≡ take l.t-index l.ts;
+}
