@@ -26,7 +26,7 @@ use Rattle.tg_model.proofs.ValueTyping.{typed_append, typed_length, opens}
 use Rattle.tg_model.proofs.TermSoundness.{sound, datatype_instance, is_datatype_instance, arguments_composed, mapped_back}
 use Rattle.tg_model.proofs.TheorySoundness.{world_first, world_answers, smaller, case_at, typed_others, typed_place, listed_value}
 
-datatype_of_at : (d : ℕ) (us : List Ty) → datatype_of (datatype_at d us) ≡ d
+pub datatype_of_at : (d : ℕ) (us : List Ty) → datatype_of (datatype_at d us) ≡ d
 datatype_of_at zero us = refl
 datatype_of_at (suc d) us = refl
 

@@ -6,7 +6,7 @@ use Rattle.tg_model.specs.Types.{nat, bool, parameter, applied, tys}
 use Rattle.tg_model.specs.Formula.{atom, all, some, deep}
 use Rattle.tg_model.specs.Equality.{is_yes, tree_decided, type_decided, formula_decided, same_tree, same_type, same_formula, DecidesTrees, DecidesTypes, DecidesFormulas}
 
-told : {P : Type 0} (d : Dec P) → (is_yes d ≡ true) ↔ P
+pub told : {P : Type 0} (d : Dec P) → (is_yes d ≡ true) ↔ P
 told (yes p) = (λ e. p, λ q. refl)
 told (no n) = (λ e. cc e, λ q. absurd (n q))
 

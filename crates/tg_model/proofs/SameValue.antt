@@ -6,7 +6,7 @@ use Rattle.tg_model.specs.Value as value
 use Rattle.tg_model.specs.Laws.{DecidesEquality}
 use Rattle.tg_model.proofs.Booleans.{and_left, and_right, and_both}
 
-truths : (a b : Bool) → same_truth a b ≡ true → a ≡ b
+pub truths : (a b : Bool) → same_truth a b ≡ true → a ≡ b
 truths true true e = refl
 truths true false e = cc
 truths false true e = cc

@@ -1,0 +1,10 @@
+pub mod PartForms
+pub mod Settings
+pub mod TruthRows
+pub mod NumberRows
+pub mod EqualityRows
+pub mod TypedLists
+pub mod BinderRows
+pub mod CallRows
+pub mod AllRows
+pub mod KnownRows
