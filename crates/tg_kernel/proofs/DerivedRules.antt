@@ -1,12 +1,12 @@
 -- Typings of operations, and rules that follow from the seventeen.
-use Rattle.std.proofs.Common.{◌≢◌, Bool, true, false, List, [], ◌∷◌, ◌++◌, refl, sym, subst, inl, inr}
+use Rattle.std.proofs.Common.{ℕ, ◌≡◌, Some, ◌≢◌, Bool, true, false, List, [], ◌∷◌, ◌++◌, refl, sym, subst, inl, inr}
 use Rattle.tg_model.specs.Tree.{Tree, Operator, op, one, two, truth, equality, negation, implication}
 use Rattle.tg_model.specs.Types.{Ty, bool, tys}
 use Rattle.tg_model.specs.Formula.{Formula, atom, implies}
 use Rattle.tg_model.specs.Theory.{Theory, AreClosed}
 use Rattle.tg_model.specs.TermTyping.{leaf, compound, none, more, IsOperation, IsTyped, IsWellFormed}
 use Rattle.tg_kernel.specs.Hypotheses.{IsIn, AreSame}
-use Rattle.tg_kernel.specs.Rows.{Row, imp_true_l, imp_false_l, eq_true_r, eq_false_r}
+use Rattle.tg_rows.specs.Rows.{row}
 use Rattle.tg_kernel.specs.Replacement as by
 use Rattle.tg_kernel.specs.Derivation.{Derives, equation, hyp, mp, truth_i, split, sym as symmetry, replace, schema}
 use Rattle.tg_kernel.proofs.Formed.{in_append, in_left, in_right}
@@ -45,9 +45,9 @@ module _ (th : Theory) (vars : List Ty) (closed : AreClosed th (tys vars)) where
   assumed f wf = hyp closed wf (same_list (f ∷ []))
 
   -- the term that a schema gives is derivable where the one that it applies to is wanted
-  unrewritten : (hs : List Formula) (s t : Tree) → Row t s → IsTruth s → IsTruth t → Derives th vars hs (atom s) → Derives th vars hs (atom t)
-  unrewritten hs s t row h k d =
-      replace (symmetry (schema closed row (equation_typed t s k h))) d (by.atom by.here) k (same_list hs)
+  unrewritten : (hs : List Formula) (s t : Tree) (n : ℕ) → row th n t ≡ Some s → IsTruth s → IsTruth t → Derives th vars hs (atom s) → Derives th vars hs (atom t)
+  unrewritten hs s t n applies h k d =
+      replace (symmetry (schema n closed applies (equation_typed t s k h))) d (by.atom by.here) k (same_list hs)
 
   module _ (c k : Tree) (c_typed : IsTruth c) (k_typed : IsTruth k) where
     abbrev whole : Tree
@@ -62,11 +62,11 @@ module _ (th : Theory) (vars : List Ty) (closed : AreClosed th (tys vars)) where
     put_back b hs h1 h2 same e d = replace e d (by.atom (by.in_op implication (by.more by.here (by.more (by.kept k) by.none)))) whole_typed same
 
     is_true : Derives th vars (atom c ∷ []) (equation (truth true) c)
-    is_true = symmetry (unrewritten (atom c ∷ []) c (op equality (two c (truth true))) (eq_true_r c) c_typed
+    is_true = symmetry (unrewritten (atom c ∷ []) c (op equality (two c (truth true))) 37 refl c_typed
         (equation_typed c (truth true) c_typed (truth_typed true)) (assumed (atom c) c_typed))
 
     is_false : Derives th vars (atom (op negation (one c)) ∷ []) (equation (truth false) c)
-    is_false = symmetry (unrewritten (atom (op negation (one c)) ∷ []) (op negation (one c)) (op equality (two c (truth false))) (eq_false_r c)
+    is_false = symmetry (unrewritten (atom (op negation (one c)) ∷ []) (op negation (one c)) (op equality (two c (truth false))) 38 refl
         (negation_typed c c_typed) (equation_typed c (truth false) c_typed (truth_typed false))
         (assumed (atom (op negation (one c))) (negation_typed c c_typed)))
 
@@ -78,7 +78,7 @@ module _ (th : Theory) (vars : List Ty) (closed : AreClosed th (tys vars)) where
           back = λ g i. elim i [ inl e ↦ inl e | inr j ↦ j ];
         })
         is_true
-        (unrewritten (atom c ∷ hs) k (op implication (two (truth true) k)) (imp_true_l k) k_typed
+        (unrewritten (atom c ∷ hs) k (op implication (two (truth true) k)) 14 refl k_typed
         (implication_typed (truth true) k (truth_typed true) k_typed)
         (mp d (assumed (atom c) c_typed) (record {
           into = λ g i. elim i [ inl e ↦ in_right g hs (atom c ∷ []) (inl e) | inr j ↦ in_left g hs (atom c ∷ []) j ];
@@ -90,7 +90,7 @@ module _ (th : Theory) (vars : List Ty) (closed : AreClosed th (tys vars)) where
         put_back false (atom (op negation (one c)) ∷ []) (atom (op negation (one c)) ∷ []) []
         (same_list (atom (op negation (one c)) ∷ []))
         is_false
-        (unrewritten [] (truth true) (op implication (two (truth false) k)) (imp_false_l k) (truth_typed true)
+        (unrewritten [] (truth true) (op implication (two (truth false) k)) 15 refl (truth_typed true)
         (implication_typed (truth false) k (truth_typed false) k_typed) (truth_i closed))
 
     -- An implication of formulas is one of terms.

@@ -175,7 +175,7 @@ formed {th} {vars} {hs} (replace {h1 = h1} {h2 = h2} d e r wf same) =
     let p = formed d in
     let q = formed e in
     record { closed = p.closed; hypotheses = either_formed th vars hs h1 h2 same p.hypotheses q.hypotheses; goal = wf }
-formed (schema closed row wf) = record { closed = closed; hypotheses = λ h i. absurd i; goal = wf }
+formed (schema k closed row wf) = record { closed = closed; hypotheses = λ h i. absurd i; goal = wf }
 formed (compute closed c wf) = record { closed = closed; hypotheses = λ h i. absurd i; goal = wf }
 
 pub is_about_formed : IsAboutFormed

@@ -1,18 +1,18 @@
 -- What is derivable is true on every table, rule by rule.
-use Rattle.std.proofs.Common.{ℕ, zero, suc, ◌≡◌, ◌+◌, Bool, true, false, not, ◌||◌, List, [], ◌∷◌, ◌++◌, length, Some, refl, sym, ◌∙◌, ap, subst, inl, inr, arith, ◌↔◌}
+use Rattle.std.proofs.Common.{ℕ, zero, suc, ◌≡◌, ◌+◌, Bool, true, false, not, List, [], ◌∷◌, ◌++◌, length, Some, refl, sym, ◌∙◌, ap, subst, inl, inr, arith, ◌↔◌}
 use Rattle.std.proofs.lemmas.Bool.{lt-ltb, le-leb}
 use Rattle.std.proofs.lemmas.Option.{slice_get_within}
-use Rattle.tg_model.specs.Tree.{Tree, bound, free, op, one, truth, equality, negation, implication}
+use Rattle.tg_model.specs.Tree.{Tree, bound, free, op, one, truth, equality, negation}
 use Rattle.tg_model.specs.Types.{Ty, bool, tys}
-use Rattle.tg_model.specs.Value.{Value, boolean, same_value, same_truth}
+use Rattle.tg_model.specs.Value.{Value, boolean, same_value}
 use Rattle.tg_model.specs.Formula.{Formula, atom, all}
 use Rattle.tg_model.specs.Theory.{Theory, numbered, AreClosed}
 use Rattle.tg_model.specs.Typing.{AreTyped}
 use Rattle.tg_model.specs.Table.{Table, IsTable}
-use Rattle.tg_model.specs.Denotation.{den, world, on_truths, on_truth}
+use Rattle.tg_model.specs.Denotation.{den, world, on_truth}
 use Rattle.tg_model.specs.Truth.{Holds, AllHold}
 use Rattle.tg_model.specs.Uses.{uses_in_formula}
-use Rattle.tg_model.specs.TermTyping.{Typing, leaf, type_of, IsTyping, IsTyped, IsWellFormed}
+use Rattle.tg_model.specs.TermTyping.{Typing, type_of, IsTyping, IsTyped, IsWellFormed}
 use Rattle.tg_model.specs.WellTyped.{IsWellTyped}
 use Rattle.tg_model.proofs.Places.{get_left}
 use Rattle.tg_model.proofs.SameValue.{decides_equality}
@@ -20,7 +20,9 @@ use Rattle.tg_model.proofs.ValueTyping.{typed_append, typed_length, is_boolean}
 use Rattle.tg_model.proofs.CallSoundness.{soundness}
 use Rattle.tg_model.proofs.Keeping.{instantiation_keeps_truth, abstraction_keeps_truth, truth_depends_on_used}
 use Rattle.tg_kernel.specs.Hypotheses.{IsIn, AreSame, AreWithout}
-use Rattle.tg_kernel.specs.Rows.{Row, imp_true_l, imp_false_l, eq_true_r, eq_true_l, eq_false_r, eq_false_l}
+use Rattle.tg_rows.specs.Rows.{row}
+use Rattle.tg_rows.specs.Laws.{Setting}
+use Rattle.tg_rows.proofs.AllRows.{rows_keep}
 use Rattle.tg_kernel.specs.Derivation.{Derives, Computes, less_literals, less_equal_literals, hyp, grow, and_i, and_l, and_r, imp_i, mp, all_i, all_e, ex_i, thyp_e, truth_i, split, sym as symmetry, replace, schema, compute}
 use Rattle.tg_kernel.specs.Laws.{IsSound, IsConsistent, IsVariableKept}
 use Rattle.tg_model.proofs.Contexts.{used_in_formula}
@@ -63,69 +65,22 @@ module _ (th : Theory) (wt : IsWellTyped th) (tb : Table) (table : IsTable th tb
   operand_truth vars env t d closed typed h e = truth_of vars env t closed typed (d, h, e)
 
   -- each schema keeps the value
-  implied : (v : Value) (b : Bool) → v ≡ boolean b → on_truths (λ a b. not a || b) (boolean true ∷ v ∷ []) ≡ v
-  implied v b e = subst (λ (x : Value). on_truths (λ a b. not a || b) (boolean true ∷ x ∷ []) ≡ x) (sym e) refl
-
-  idle : (v : Value) (b : Bool) → v ≡ boolean b → on_truths (λ a b. not a || b) (boolean false ∷ v ∷ []) ≡ boolean true
-  idle v b e = subst (λ (x : Value). on_truths (λ a b. not a || b) (boolean false ∷ x ∷ []) ≡ boolean true) (sym e) refl
-
-  with_true : (b : Bool) → same_truth b true ≡ b
-  with_true true = refl
-  with_true false = refl
-
-  with_false : (b : Bool) → same_truth b false ≡ not b
-  with_false true = refl
-  with_false false = refl
-
-  is_true_r : (v : Value) (b : Bool) → v ≡ boolean b → boolean (same_value v (boolean true)) ≡ v
-  is_true_r v b e = subst (λ (x : Value). boolean (same_value x (boolean true)) ≡ x) (sym e) (ap boolean (with_true b))
-
-  is_true_l : (v : Value) (b : Bool) → v ≡ boolean b → boolean (same_value (boolean true) v) ≡ v
-  is_true_l v b e = subst (λ (x : Value). boolean (same_value (boolean true) x) ≡ x) (sym e) refl
-
-  is_false_r : (v : Value) (b : Bool) → v ≡ boolean b → boolean (same_value v (boolean false)) ≡ on_truth not (v ∷ [])
-  is_false_r v b e = subst (λ (x : Value). boolean (same_value x (boolean false)) ≡ on_truth not (x ∷ [])) (sym e) (ap boolean (with_false b))
-
-  is_false_l : (v : Value) (b : Bool) → v ≡ boolean b → boolean (same_value (boolean false) v) ≡ on_truth not (v ∷ [])
-  is_false_l v b e = subst (λ (x : Value). boolean (same_value (boolean false) x) ≡ on_truth not (x ∷ [])) (sym e) refl
-
-  abbrev first_type : List Ty → Ty
-  first_type [] = bool
-  first_type (t ∷ ts) = t
-
-  abbrev second_type : List Ty → Ty
-  second_type [] = bool
-  second_type (t ∷ []) = bool
-  second_type (t ∷ u ∷ ts) = u
-
-  bool_leaf : (vars : List Ty) (x : Bool) (d : Typing) → IsTyping th vars [] (truth x) d → type_of d ≡ bool
-  bool_leaf vars x (leaf t) h = h
-  bool_leaf vars x d h = absurd h
-
-  row_value : (vars : List Ty) (env : List Value) (s t : Tree) → AreClosed th (tys vars) → AreTyped th env vars → Row s t → (d : Typing) → IsTyping th vars [] s d
-      → den th tb env [] s ≡ den th tb env [] t
-  row_value vars env s t closed typed (imp_true_l a) d h =
-      let p = operands th vars implication (truth true) a d h in
-      let b = operand_truth vars env a p.right closed typed p.right_is (ap second_type p.is.0) in implied _ b.0 b.1
-  row_value vars env s t closed typed (imp_false_l a) d h =
-      let p = operands th vars implication (truth false) a d h in
-      let b = operand_truth vars env a p.right closed typed p.right_is (ap second_type p.is.0) in idle _ b.0 b.1
-  row_value vars env s t closed typed (eq_true_r a) d h =
-      let p = operands th vars equality a (truth true) d h in
-      let e : type_of p.left ≡ bool = ap first_type p.is.0.1 ∙ (sym (ap second_type p.is.0.1) ∙ bool_leaf vars true p.right p.right_is) in
-      let b = operand_truth vars env a p.left closed typed p.left_is e in is_true_r _ b.0 b.1
-  row_value vars env s t closed typed (eq_true_l a) d h =
-      let p = operands th vars equality (truth true) a d h in
-      let e : type_of p.right ≡ bool = ap second_type p.is.0.1 ∙ (sym (ap first_type p.is.0.1) ∙ bool_leaf vars true p.left p.left_is) in
-      let b = operand_truth vars env a p.right closed typed p.right_is e in is_true_l _ b.0 b.1
-  row_value vars env s t closed typed (eq_false_r a) d h =
-      let p = operands th vars equality a (truth false) d h in
-      let e : type_of p.left ≡ bool = ap first_type p.is.0.1 ∙ (sym (ap second_type p.is.0.1) ∙ bool_leaf vars false p.right p.right_is) in
-      let b = operand_truth vars env a p.left closed typed p.left_is e in is_false_r _ b.0 b.1
-  row_value vars env s t closed typed (eq_false_l a) d h =
-      let p = operands th vars equality (truth false) a d h in
-      let e : type_of p.right ≡ bool = ap second_type p.is.0.1 ∙ (sym (ap first_type p.is.0.1) ∙ bool_leaf vars false p.left p.left_is) in
-      let b = operand_truth vars env a p.right closed typed p.right_is e in is_false_l _ b.0 b.1
+  row_value : (vars : List Ty) (env : List Value) (k : ℕ) (s t : Tree) (u : Ty) → AreClosed th (tys vars) → AreTyped th env vars → row th k s ≡ Some t
+      → IsTyped th vars [] s u → den th tb env [] s ≡ den th tb env [] t
+  row_value vars env k s t u closed typed applies h =
+      let setting : Setting th = record {
+        table = tb;
+        is_table = table;
+        vars = vars;
+        locs = [];
+        env = env;
+        loc = [];
+        closed_vars = closed;
+        closed_locs = tt;
+        typed_env = typed;
+        typed_loc = tt;
+      } in
+      (rows_keep th wt setting k s t u applies h).0
 
   computed : (env : List Value) (t : Tree) → Computes t → den th tb env [] t ≡ boolean true
   computed env t (less_literals m n h) = ap boolean (lt-ltb m n h)
@@ -210,9 +165,9 @@ module _ (th : Theory) (wt : IsWellTyped th) (tb : Table) (table : IsTable th tb
       let here = equal_values (den th tb env [] s) (den th tb env [] t) (sound d env typed p.0) in
       let equal = λ (loc : List Value). closed_value th vars w env loc s o.left o.left_is ∙ (here ∙ sym (closed_value th vars w env loc t o.right o.right_is)) in
       subst (λ (X : Type 0). X) (replaced_truth th tb env s t equal r []) (sound e env typed p.1)
-  sound {vars = vars} (schema {s = s} {t = t} closed row wf) env typed given =
+  sound {vars = vars} (schema {s = s} {t = t} k closed applies wf) env typed given =
       let o = operands th vars equality s t wf.0 wf.1 in
-      values_equal (den th tb env [] s) (den th tb env [] t) (row_value vars env s t closed typed row o.left o.left_is)
+      values_equal (den th tb env [] s) (den th tb env [] t) (row_value vars env k s t (type_of o.left) closed typed applies (o.left, o.left_is, refl))
   sound (compute {t = t} closed c wf) env typed given = computed env t c
 
   -- hypotheses of a sequent, one after another

@@ -1,16 +1,16 @@
 -- The calculus. A derivation is a tree whose nodes are sequents, each an instance of a rule on its children: one constructor a
 -- rule. `Derives th vars hs f` says that there is one of the sequent with the context `vars`, the hypotheses `hs` and the
 -- goal `f`. A condition that computes is an equation, so that the indices are variables.
-use Rattle.std.specs.Prelude.{ℕ, ◌≡◌, ◌<◌, ◌≤◌, ◌+◌, true, List, [], ◌∷◌, ◌++◌, length}
+use Rattle.std.specs.Prelude.{ℕ, ◌≡◌, ◌<◌, ◌≤◌, ◌+◌, true, Some, List, [], ◌∷◌, ◌++◌, length}
 use Rattle.tg_model.specs.Tree.{Tree, truth, literal, op, one, two, negation, equality, less, less_equal}
 use Rattle.tg_model.specs.Types.{Ty, bool, tys}
 use Rattle.tg_model.specs.Formula.{Formula, atom, both, implies, all, some, thyp}
 use Rattle.tg_model.specs.Theory.{Theory, AreClosed}
 use Rattle.tg_model.specs.TermTyping.{IsTyped, IsWellFormed}
 use Rattle.tg_model.specs.Walk.{abstracted_formula, instantiated_formula}
+use Rattle.tg_rows.specs.Rows.{row}
 use Rattle.tg_kernel.specs.Hypotheses.{AreSame, AreWithout, NoneUses}
 use Rattle.tg_kernel.specs.Replacement.{FormulaReplaced}
-use Rattle.tg_kernel.specs.Rows.{Row}
 
 abbrev pub equation : Tree → Tree → Formula
 equation s t = atom (op equality (two s t))
@@ -45,5 +45,6 @@ pub data Derives (th : Theory) : List Ty → List Formula → Formula → Type 0
   sym : {vars : List Ty} {hs : List Formula} {s t : Tree} → Derives th vars hs (equation s t) → Derives th vars hs (equation t s)
   replace : {vars : List Ty} {hs h1 h2 : List Formula} {s t : Tree} {f g : Formula} → Derives th vars h1 (equation s t) → Derives th vars h2 f
       → FormulaReplaced s t f g → IsWellFormed th vars [] g → AreSame hs (h1 ++ h2) → Derives th vars hs g
-  schema : {vars : List Ty} {s t : Tree} → AreClosed th (tys vars) → Row s t → IsWellFormed th vars [] (equation s t) → Derives th vars [] (equation s t)
+  schema : {vars : List Ty} {s t : Tree} (k : ℕ) → AreClosed th (tys vars) → row th k s ≡ Some t → IsWellFormed th vars [] (equation s t)
+      → Derives th vars [] (equation s t)
   compute : {vars : List Ty} {t : Tree} → AreClosed th (tys vars) → Computes t → IsWellFormed th vars [] (atom t) → Derives th vars [] (atom t)

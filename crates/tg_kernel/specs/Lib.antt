@@ -1,5 +1,4 @@
 pub mod Hypotheses
 pub mod Replacement
-pub mod Rows
 pub mod Derivation
 pub mod Laws

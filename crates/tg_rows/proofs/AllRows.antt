@@ -1,17 +1,12 @@
 -- The laws of all rows.
-use Rattle.std.proofs.Common.{ℕ, zero, suc, ◌≡◌, ◌+◌, List, [], ◌∷◌, length, Option, Some, None, true, false, refl, sym, ◌∙◌, ap, subst}
+use Rattle.std.proofs.Common.{ℕ, zero, suc, ◌≡◌, List, [], ◌∷◌, Some, true, false, refl, subst}
 use Rattle.std.specs.Prelude.{slice_get}
-use Rattle.tg_model.specs.Tree as tree
-use Rattle.tg_model.specs.Tree.{Tree, Trees, bind, free, truth, con}
-use Rattle.tg_model.specs.Types.{Ty}
+use Rattle.tg_model.specs.Tree.{free, truth, con}
 use Rattle.tg_model.specs.Theory.{Theory}
-use Rattle.tg_model.specs.TermTyping.{IsTyped}
 use Rattle.tg_model.specs.WellTyped.{IsWellTyped}
-use Rattle.tg_model.specs.Made.{IsMade}
 use Rattle.tg_model.specs.Walk.{instantiated}
 use Rattle.tg_rows.specs.Laws.{Setting, RowsKeep, AreFortyEight, SomeForLet, NoneForMade}
-use Rattle.tg_rows.specs.Parts.{and_then}
-use Rattle.tg_rows.specs.Rows.{Row, rows, row, first_of, first_from, first}
+use Rattle.tg_rows.specs.Rows.{Row, rows}
 use Rattle.tg_rows.proofs.PartForms.{then_some}
 use Rattle.tg_rows.proofs.Settings.{Keeps}
 use Rattle.tg_rows.proofs.TruthRows as truths
@@ -31,19 +26,139 @@ module _ (th : Theory) (wt : IsWellTyped th) (n : Setting th) where
   one_keeps (g ∷ fs) (suc k) f h e = one_keeps fs k f h.1 e
 
   all_keep : AllKeep (rows th)
-  all_keep =
-      (truths.not_truth_keeps th wt n true, (truths.not_truth_keeps th wt n false, (truths.not_not_keeps th wt n,
-      (truths.and_true_l th wt n, (truths.and_false_l th wt n, (truths.and_true_r th wt n, (truths.and_false_r th wt n, (truths.and_same th wt n,
-      (truths.or_true_l th wt n, (truths.or_false_l th wt n, (truths.or_true_r th wt n, (truths.or_false_r th wt n, (truths.or_same th wt n,
-      (truths.imp_true_l th wt n, (truths.imp_false_l th wt n, (truths.imp_true_r th wt n, (truths.imp_false_r th wt n, (truths.imp_same th wt n,
-      (truths.if_truth_keeps th wt n true, (truths.if_truth_keeps th wt n false, (truths.if_same_keeps th wt n, (binders.let_sub_keeps th wt n,
-      (binders.case_con_keeps th wt n, (binders.case_suc_keeps th wt n, (binders.case_lit_keeps th wt n,
-      (calls.unfold_def_keeps th wt n, (calls.unfold_con_keeps th wt n, (calls.unfold_suc_keeps th wt n, (calls.unfold_lit_keeps th wt n,
-      (numbers.eq_same th wt n, (equalities.eq_con_keeps th wt n, (equalities.eq_con_diff_keeps th wt n, (numbers.eq_lit th wt n,
-      (numbers.eq_suc_keeps th wt n, (equalities.eq_zero_suc_keeps th wt n, (equalities.eq_suc_lit_keeps th wt n,
-      (truths.eq_true th wt n, (truths.eq_false th wt n, (numbers.suc_lit_keeps th wt n,
-      (numbers.add_lit th wt n, (numbers.sub_lit th wt n, (numbers.mul_lit th wt n, (numbers.div_lit th wt n, (numbers.mod_lit th wt n,
-      (numbers.less_same th wt n, (numbers.less_lit th wt n, (numbers.le_same th wt n, (numbers.le_lit th wt n, tt))))))))))))))))))))))))))))))))))))))))))))))))
+  all_keep = (
+    truths.not_truth_keeps th wt n true,
+    (
+      truths.not_truth_keeps th wt n false,
+      (
+        truths.not_not_keeps th wt n,
+        (
+          truths.and_true_l th wt n,
+          (
+            truths.and_false_l th wt n,
+            (
+              truths.and_true_r th wt n,
+              (
+                truths.and_false_r th wt n,
+                (
+                  truths.and_same th wt n,
+                  (
+                    truths.or_true_l th wt n,
+                    (
+                      truths.or_false_l th wt n,
+                      (
+                        truths.or_true_r th wt n,
+                        (
+                          truths.or_false_r th wt n,
+                          (
+                            truths.or_same th wt n,
+                            (
+                              truths.imp_true_l th wt n,
+                              (
+                                truths.imp_false_l th wt n,
+                                (
+                                  truths.imp_true_r th wt n,
+                                  (
+                                    truths.imp_false_r th wt n,
+                                    (
+                                      truths.imp_same th wt n,
+                                      (
+                                        truths.if_truth_keeps th wt n true,
+                                        (
+                                          truths.if_truth_keeps th wt n false,
+                                          (
+                                            truths.if_same_keeps th wt n,
+                                            (
+                                              binders.let_sub_keeps th wt n,
+                                              (
+                                                binders.case_con_keeps th wt n,
+                                                (
+                                                  binders.case_suc_keeps th wt n,
+                                                  (
+                                                    binders.case_lit_keeps th wt n,
+                                                    (
+                                                      calls.unfold_def_keeps th wt n,
+                                                      (
+                                                        calls.unfold_con_keeps th wt n,
+                                                        (
+                                                          calls.unfold_suc_keeps th wt n,
+                                                          (
+                                                            calls.unfold_lit_keeps th wt n,
+                                                            (
+                                                              numbers.eq_same th wt n,
+                                                              (
+                                                                equalities.eq_con_keeps th wt n,
+                                                                (
+                                                                  equalities.eq_con_diff_keeps th wt n,
+                                                                  (
+                                                                    numbers.eq_lit th wt n,
+                                                                    (
+                                                                      numbers.eq_suc_keeps th wt n,
+                                                                      (
+                                                                        equalities.eq_zero_suc_keeps th wt n,
+                                                                        (
+                                                                          equalities.eq_suc_lit_keeps th wt n,
+                                                                          (
+                                                                            truths.eq_true th wt n,
+                                                                            (
+                                                                              truths.eq_false th wt n,
+                                                                              (
+                                                                                numbers.suc_lit_keeps th wt n,
+                                                                                (
+                                                                                  numbers.add_lit th wt n,
+                                                                                  (
+                                                                                    numbers.sub_lit th wt n,
+                                                                                    (
+                                                                                      numbers.mul_lit th wt n,
+                                                                                      (
+                                                                                        numbers.div_lit th wt n,
+                                                                                        (
+                                                                                          numbers.mod_lit th wt n,
+                                                                                          (numbers.less_same th wt n, (numbers.less_lit th wt n, (numbers.le_same th wt n, (numbers.le_lit th wt n, tt)))),
+                                                                                        ),
+                                                                                      ),
+                                                                                    ),
+                                                                                  ),
+                                                                                ),
+                                                                              ),
+                                                                            ),
+                                                                          ),
+                                                                        ),
+                                                                      ),
+                                                                    ),
+                                                                  ),
+                                                                ),
+                                                              ),
+                                                            ),
+                                                          ),
+                                                        ),
+                                                      ),
+                                                    ),
+                                                  ),
+                                                ),
+                                              ),
+                                            ),
+                                          ),
+                                        ),
+                                      ),
+                                    ),
+                                  ),
+                                ),
+                              ),
+                            ),
+                          ),
+                        ),
+                      ),
+                    ),
+                  ),
+                ),
+              ),
+            ),
+          ),
+        ),
+      ),
+    ),
+  )
 
 pub rows_keep : RowsKeep
 rows_keep th wt n zero t u a e h = cc e

@@ -1,38 +1,31 @@
 -- The rows that put terms in for variables: `let`, `case`, and calls of functions.
-use Rattle.std.proofs.Common.{ℕ, zero, suc, ◌≡◌, ◌≤◌, ◌+◌, ◌-◌, Bool, true, false, List, [], ◌∷◌, ◌++◌, map, reverse, length, Option, Some, None, refl, sym, ◌∙◌, ap, subst, nat_eq, nat_le, if◌then◌else◌, arith}
-use Rattle.std.specs.Prelude.{slice_get, unwrap_or, option_map}
+use Rattle.std.proofs.Common.{ℕ, zero, suc, ◌≡◌, ◌+◌, ◌-◌, Bool, true, false, List, [], ◌∷◌, ◌++◌, map, reverse, length, Option, Some, None, refl, sym, ◌∙◌, ap, subst, nat_eq, nat_le, if◌then◌else◌, arith}
+use Rattle.std.specs.Prelude.{slice_get, option_map}
 use Rattle.std.specs.Option.{option_map_or}
-use Rattle.std.proofs.lemmas.Bool.{eqb-true, eq-eqb, leb-true, le-leb}
 use Rattle.std.proofs.lemmas.List.{length-map}
 use Rattle.std.proofs.lemmas.Option.{slice_get-map}
 use Rattle.tg_model.specs.Tree as tree
 use Rattle.tg_model.specs.Tree.{Tree, Trees, Arms, literal, con, call, case, bind, op, one, elements, successor}
-use Rattle.tg_model.specs.Types.{Ty, nat, bool, applied, tys}
+use Rattle.tg_model.specs.Types.{Ty, nat, applied, tys}
 use Rattle.tg_model.specs.Value as value
 use Rattle.tg_model.specs.Value.{Value, Values, number, made, values, wrong}
-use Rattle.tg_model.specs.Theory.{Theory, Datatype, Constructor, Function, Body, plain, recursive, numbered, first_constructor, instance, datatype_of}
-use Rattle.tg_model.specs.Denotation.{World, value_in, values_in, branch_in, opened, others, place_of, operated, datatype_of_place, world, world_below, den}
-use Rattle.tg_model.specs.TermTyping.{Typing, Typings, ArmTypings, leaf, instanced, compound, branching, binding, none, more, end, arm, types_of, IsTyping, AreTypings, AreArmTypings, IsTyped, AllTyped, AreListTyped, EachCall, IsDatatype, datatype_at, constructor_arguments}
-use Rattle.tg_model.specs.WellTyped.{IsWellTyped, IsBody, IsLower}
-use Rattle.tg_model.specs.Walk.{substituted, instantiated}
+use Rattle.tg_model.specs.Theory.{Theory, Datatype, Constructor, first_constructor, instance}
+use Rattle.tg_model.specs.Denotation.{World, value_in, values_in, branch_in, opened, operated, world}
+use Rattle.tg_model.specs.TermTyping.{ArmTypings, leaf, instanced, compound, branching, binding, arm, AreArmTypings, IsTyped, AreListTyped, IsDatatype, datatype_at, constructor_arguments}
+use Rattle.tg_model.specs.WellTyped.{IsWellTyped}
+use Rattle.tg_model.specs.Walk.{instantiated}
 use Rattle.tg_model.proofs.Numbering.{numbered_constructor}
 use Rattle.tg_model.proofs.ValueTyping.{number_of as datatype_number, same_arguments}
-use Rattle.tg_model.proofs.Keeping.{instantiation_keeps, substitution_keeps, instantiation_keeps_types, substitution_keeps_types}
-use Rattle.tg_model.proofs.Contexts.{contexts_grow}
-use Rattle.tg_model.proofs.ClosedValues.{is_closed_value}
-use Rattle.tg_model.proofs.InstanceTypings.{instance_keeps_types}
-use Rattle.tg_model.proofs.CallBodies.{definitions_are_bodies, recursions_are_bodies}
-use Rattle.tg_model.proofs.CallSoundness.{datatype_of_at}
-use Rattle.tg_model.proofs.TermSoundness.{datatype_instance, is_datatype_instance, arguments_composed, mapped_back}
-use Rattle.tg_model.proofs.TheorySoundness.{world_first, case_at}
+use Rattle.tg_model.proofs.Keeping.{instantiation_keeps, instantiation_keeps_types}
+use Rattle.tg_model.proofs.TheorySoundness.{world_first}
 use Rattle.tg_rows.specs.Laws.{Setting}
-use Rattle.tg_rows.specs.Parts.{only_if, and_then, unary, number_of, bind_of, case_of, made_of, called, branch_at}
-use Rattle.tg_rows.specs.Rows.{let_sub, Opener, from_constructor, from_successor, place_of_literal, from_literal, entered, case_by, plain_body, recursive_body, unfold_def, unfold_by}
-use Rattle.tg_rows.proofs.PartForms.{some_same, some_if, then_some, unary_is, number_is, bind_is, case_is, made_is, called_is}
+use Rattle.tg_rows.specs.Parts.{only_if, and_then, unary, number_of, bind_of, case_of, made_of, branch_at}
+use Rattle.tg_rows.specs.Rows.{let_sub, Opener, from_constructor, from_successor, place_of_literal, from_literal, entered, case_by}
+use Rattle.tg_rows.proofs.PartForms.{some_same, some_if, then_some, unary_is, number_is, bind_is, case_is, made_is}
 use Rattle.tg_rows.proofs.Settings.{value as value_of, Typed, literal_typed, Kept, Keeps, through}
 use Rattle.tg_rows.proofs.NumberRows.{successor_value}
-use Rattle.tg_rows.proofs.EqualityRows.{Made, made_typed, all_typed}
-use Rattle.tg_rows.proofs.TypedLists.{values_map, map_append, map_others, listed_typed, append_typed, others_typed, typed_at_place, as_long}
+use Rattle.tg_rows.proofs.EqualityRows.{made_typed}
+use Rattle.tg_rows.proofs.TypedLists.{values_map, listed_typed}
 
 elements-values : (vs : List Value) → value.elements (values vs) ≡ vs
 elements-values [] = refl

@@ -1,16 +1,16 @@
 -- The rows of calls: a call becomes its body at the arguments.
-use Rattle.std.proofs.Common.{ℕ, zero, suc, ◌≡◌, ◌<◌, List, [], ◌∷◌, ◌++◌, map, length, Option, Some, None, refl, sym, ◌∙◌, ap, subst}
-use Rattle.std.specs.Prelude.{slice_get, unwrap_or, option_map}
+use Rattle.std.proofs.Common.{ℕ, zero, suc, ◌≡◌, List, [], ◌∷◌, ◌++◌, map, length, Option, Some, refl, sym, ◌∙◌, ap, subst}
+use Rattle.std.specs.Prelude.{slice_get, option_map}
 use Rattle.std.specs.Option.{option_map_or}
 use Rattle.std.proofs.lemmas.List.{length-map}
 use Rattle.std.proofs.lemmas.Option.{slice_get-map}
 use Rattle.tg_model.specs.Tree as tree
 use Rattle.tg_model.specs.Tree.{Tree, Trees, call, elements}
 use Rattle.tg_model.specs.Types.{Ty}
-use Rattle.tg_model.specs.Value.{Value, wrong}
+use Rattle.tg_model.specs.Value.{Value}
 use Rattle.tg_model.specs.Theory.{Theory, Function, Body, plain, recursive, numbered, first_constructor, instance, datatype_of}
-use Rattle.tg_model.specs.Denotation.{World, value_in, values_in, opened, others, place_of, datatype_of_place, world, den}
-use Rattle.tg_model.specs.TermTyping.{Typing, leaf, instanced, compound, branching, binding, IsTyped, AllTyped, AreListTyped, EachCall, IsDatatype, datatype_at, constructor_arguments}
+use Rattle.tg_model.specs.Denotation.{values_in, opened, others, place_of, datatype_of_place, world, den}
+use Rattle.tg_model.specs.TermTyping.{leaf, instanced, compound, branching, binding, IsTyped, AllTyped, AreListTyped, EachCall, datatype_at, constructor_arguments}
 use Rattle.tg_model.specs.WellTyped.{IsWellTyped, IsBody, IsLower}
 use Rattle.tg_model.specs.Walk.{substituted}
 use Rattle.tg_model.proofs.Keeping.{substitution_keeps, substitution_keeps_types}
@@ -29,7 +29,7 @@ use Rattle.tg_rows.proofs.PartForms.{some_same, then_some, called_is}
 use Rattle.tg_rows.proofs.Settings.{value, Typed, Kept, Keeps, through}
 use Rattle.tg_rows.proofs.EqualityRows.{all_typed}
 use Rattle.tg_rows.proofs.TypedLists.{values_map, map_append, map_others, listed_typed, append_typed, others_typed, typed_at_place, as_long}
-use Rattle.tg_rows.proofs.BinderRows.{IsOpened, Opens, constructor_opens, successor_opens, literal_opens}
+use Rattle.tg_rows.proofs.BinderRows.{Opens, constructor_opens, successor_opens, literal_opens}
 
 plain_is : (b : Body) (t : Tree) → plain_body b ≡ Some t → b ≡ plain t
 plain_is (plain u) t e = ap plain (some_same e)

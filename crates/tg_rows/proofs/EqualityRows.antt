@@ -4,10 +4,10 @@ use Rattle.std.proofs.lemmas.Bool.{eqb-true, eq-eqb, ne_eqb}
 use Rattle.tg_model.specs.Tree as tree
 use Rattle.tg_model.specs.Tree.{Tree, Trees, literal, truth, con, op, one, two, elements, successor, equality, conjunction}
 use Rattle.tg_model.specs.Types.{Ty, nat, bool, applied, tys}
-use Rattle.tg_model.specs.Value.{Value, Values, number, boolean, made, values, same_value, same_values}
+use Rattle.tg_model.specs.Value.{Value, number, boolean, values, same_value, same_values}
 use Rattle.tg_model.specs.Theory.{Theory, Owned, constructor_at, instance}
 use Rattle.tg_model.specs.Denotation.{operated, values_in, world}
-use Rattle.tg_model.specs.TermTyping.{Typing, Typings, leaf, instanced, compound, branching, binding, none, more, types_of, AreTypings, AllTyped, IsTyped}
+use Rattle.tg_model.specs.TermTyping.{Typings, leaf, instanced, compound, branching, binding, none, more, types_of, AreTypings, AllTyped}
 use Rattle.tg_model.specs.WellTyped.{IsWellTyped}
 use Rattle.tg_model.proofs.ValueTyping.{same_arguments}
 use Rattle.tg_rows.specs.Laws.{Setting}
@@ -76,6 +76,7 @@ module _ (th : Theory) (wt : IsWellTyped th) (n : Setting th) where
           let w = successor_value th wt n z.operand s.1 s.3 in
           refuted (literal 0) (op successor (one z.operand)) a
           (ap (λ q. operated equality (number 0 ∷ operated successor (q ∷ []) ∷ [])) w.2.1 ∙ ap boolean (never_zero w.2.0).0) l) k
+
       right : (x y : Tree) → ZeroSuccessor y x → truth false ≡ u → At (equation x y) a → Kept th wt n (equation x y) u a
       right x y z f k =
           through th wt n (equation x y) (equation (op successor (one z.operand)) (literal 0)) u (truth false) a (λ i. equation (z.next i) (z.zeroth i)) f
@@ -83,6 +84,7 @@ module _ (th : Theory) (wt : IsWellTyped th) (n : Setting th) where
           let w = successor_value th wt n z.operand s.0 s.2 in
           refuted (op successor (one z.operand)) (literal 0) a
           (ap (λ q. operated equality (operated successor (q ∷ []) ∷ number 0 ∷ [])) w.2.1 ∙ ap boolean (never_zero w.2.0).1) l) k
+
       by : (x y : Tree) (o : Option Tree) → zero_successor x y ≡ o → or_else o (zero_successor y x) ≡ Some u → At (equation x y) a → Kept th wt n (equation x y) u a
       by x y None f g k = let z = zero_successor_is y x u g in right x y z.0 z.1 k
       by x y (Some w) f g k = let z = zero_successor_is x y w f in left x y z.0 (z.1 ∙ some_same g) k

@@ -1,5 +1,5 @@
 -- Each row at a term to which it applies, and at a term close by to which it doesn't, as they are known by hand.
-use Rattle.std.proofs.Common.{ℕ, ◌≡◌, true, false, refl, List, [], ◌∷◌, Option, Some, None}
+use Rattle.std.proofs.Common.{ℕ, ◌≡◌, true, false, refl, [], ◌∷◌, Option, Some, None}
 use Rattle.tg_model.specs.Tree as tree
 use Rattle.tg_model.specs.Tree.{Tree, bound, free, literal, truth, con, call, put, choice, case, bind, op, one, two, trees, Operator, successor, negation, conjunction, disjunction, implication, equality, less, less_equal, plus, minus, times, divide, modulo}
 use Rattle.tg_model.proofs.KnownValues.{sorting, nil, cons}

@@ -1,10 +1,9 @@
 -- The rows of numbers and of equality.
-use Rattle.std.proofs.Common.{ℕ, zero, suc, ◌≡◌, ◌<◌, ◌+◌, ◌-◌, ◌*◌, Bool, true, false, not, List, [], ◌∷◌, Option, Some, None, refl, sym, ◌∙◌, ap, subst, nat_eq, nat_lt, nat_le, arith}
+use Rattle.std.proofs.Common.{ℕ, ◌≡◌, ◌<◌, ◌+◌, ◌-◌, ◌*◌, Bool, true, false, not, [], ◌∷◌, Option, Some, refl, sym, ◌∙◌, ap, subst, nat_eq, nat_lt, nat_le, arith}
 use Rattle.std.proofs.lemmas.Bool.{eqb-true, eq-eqb, ltb-true, le-leb}
-use Rattle.tg_model.specs.Tree as tree
 use Rattle.tg_model.specs.Tree.{Tree, literal, truth, op, one, two, Operator, successor, equality, less, less_equal, plus, minus, times, divide, modulo}
 use Rattle.tg_model.specs.Types.{Ty, nat, bool}
-use Rattle.tg_model.specs.Value.{Value, number, boolean, same_value}
+use Rattle.tg_model.specs.Value.{Value, number, boolean}
 use Rattle.tg_model.specs.Theory.{Theory}
 use Rattle.tg_model.specs.Denotation.{operated, quotient, remainder}
 use Rattle.tg_model.specs.TermTyping.{IsOperation}
@@ -12,11 +11,11 @@ use Rattle.tg_model.specs.WellTyped.{IsWellTyped}
 use Rattle.tg_model.specs.Equality.{same_tree}
 use Rattle.tg_model.proofs.SameValue.{same_itself}
 use Rattle.tg_rows.specs.Laws.{Setting}
-use Rattle.tg_rows.specs.Parts.{only_if, and_then, or_else, unary, binary, number_of}
-use Rattle.tg_rows.specs.Rows.{alike, literals, always, small, equation, eq_suc, zero_successor, eq_zero_suc, before, eq_suc_lit, suc_lit}
+use Rattle.tg_rows.specs.Parts.{only_if, and_then, unary, binary, number_of}
+use Rattle.tg_rows.specs.Rows.{alike, literals, always, small, equation, eq_suc, suc_lit}
 use Rattle.tg_rows.proofs.PartForms.{some_same, some_if, then_some, trees_same, unary_is, binary_is, number_is}
-use Rattle.tg_rows.proofs.Settings.{value, Typed, number_value, one_typed, two_typed, truth_typed, literal_typed, op_two, Kept, Keeps, through}
-use Rattle.tg_rows.proofs.TruthRows.{two_types, equal_types, one_type, either}
+use Rattle.tg_rows.proofs.Settings.{value, Typed, number_value, one_typed, two_typed, truth_typed, literal_typed, op_two, Keeps, through}
+use Rattle.tg_rows.proofs.TruthRows.{two_types, equal_types, one_type}
 
 module _ (th : Theory) (wt : IsWellTyped th) (n : Setting th) where
   abbrev v : Tree → Value

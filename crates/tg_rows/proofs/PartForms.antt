@@ -1,10 +1,9 @@
 -- What a step found tells the form of the term.
-use Rattle.std.proofs.Common.{ℕ, zero, suc, ◌≡◌, Bool, true, false, List, [], ◌∷◌, Option, Some, None, refl, sym, ◌∙◌, ap, subst}
-use Rattle.tg_model.specs.Tree as tree
+use Rattle.std.proofs.Common.{ℕ, ◌≡◌, Bool, true, false, Option, Some, None, refl, sym, ap}
 use Rattle.tg_model.specs.Tree.{Tree, Trees, Arms, bound, free, literal, truth, con, call, put, choice, case, bind, op, none, more, one, two, Operator, operator_discrete}
 use Rattle.tg_model.specs.Equality.{number_decided, same_tree}
 use Rattle.tg_model.proofs.Equalities.{told, decides_trees}
-use Rattle.tg_rows.specs.Parts.{only_if, and_then, or_else, same_operator, unary, binary, truth_of, number_of, choice_of, bind_of, case_of, made_of, called}
+use Rattle.tg_rows.specs.Parts.{only_if, and_then, same_operator, unary, binary, truth_of, number_of, choice_of, bind_of, case_of, made_of, called}
 
 pub some_same : {A : Type 0} {x y : A} → Some x ≡ Some y → x ≡ y
 some_same e = cc

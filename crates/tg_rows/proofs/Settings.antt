@@ -1,5 +1,5 @@
 -- Typed terms in a setting: what values they have, and the types of operands.
-use Rattle.std.proofs.Common.{ℕ, ◌≡◌, Bool, List, [], ◌∷◌, map, Option, Some, refl, sym, ◌∙◌, ap, subst}
+use Rattle.std.proofs.Common.{ℕ, ◌≡◌, Bool, List, [], ◌∷◌, Option, Some, refl, sym, ◌∙◌, ap, subst}
 use Rattle.tg_model.specs.Tree as tree
 use Rattle.tg_model.specs.Tree.{Tree, Trees, truth, literal, choice, op, one, two, Operator}
 use Rattle.tg_model.specs.Types.{Ty, nat, bool}
@@ -7,7 +7,7 @@ use Rattle.tg_model.specs.Value.{Value, number, boolean}
 use Rattle.tg_model.specs.Theory.{Theory, instance}
 use Rattle.tg_model.specs.Typing.{HasType, AreTyped}
 use Rattle.tg_model.specs.Denotation.{den}
-use Rattle.tg_model.specs.TermTyping.{Typing, leaf, compound, none, more, type_of, IsOperation, IsTyped}
+use Rattle.tg_model.specs.TermTyping.{leaf, compound, none, more, type_of, IsOperation, IsTyped}
 use Rattle.tg_model.specs.WellTyped.{IsWellTyped}
 use Rattle.tg_model.proofs.Inhabited.{list_closed_instance}
 use Rattle.tg_model.proofs.Inversions.{unary, binary, conditional}
@@ -56,9 +56,11 @@ module _ (th : Theory) (wt : IsWellTyped th) (n : Setting th) where
   op_one o t s a (d, h, e) r = (compound a (more d none), (subst (λ (b : Ty). IsOperation o (b ∷ []) a) (sym e) r, (h, tt)), refl)
 
   pub op_two : (o : Operator) (t u : Tree) (s r a : Ty) → Typed t s → Typed u r → IsOperation o (s ∷ r ∷ []) a → Typed (op o (two t u)) a
-  op_two o t u s r a (d, h, e) (d', h', e') k =
-      (compound a (more d (more d' none)),
-      (subst (λ (b : Ty). IsOperation o (b ∷ type_of d' ∷ []) a) (sym e) (subst (λ (b : Ty). IsOperation o (s ∷ b ∷ []) a) (sym e') k), (h, (h', tt))), refl)
+  op_two o t u s r a (d, h, e) (d', h', e') k = (
+    compound a (more d (more d' none)),
+    (subst (λ (b : Ty). IsOperation o (b ∷ type_of d' ∷ []) a) (sym e) (subst (λ (b : Ty). IsOperation o (s ∷ b ∷ []) a) (sym e') k), (h, (h', tt))),
+    refl,
+  )
 
   -- what a row keeps
   abbrev pub Kept : Tree → Tree → Ty → Type 0

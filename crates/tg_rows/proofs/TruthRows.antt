@@ -1,20 +1,20 @@
 -- The rows of truth functions, of `if`, and of equality with a truth value.
-use Rattle.std.proofs.Common.{ℕ, ◌≡◌, Bool, true, false, not, List, [], ◌∷◌, Option, Some, None, refl, sym, ◌∙◌, ap, subst, if◌then◌else◌}
+use Rattle.std.proofs.Common.{◌≡◌, Bool, true, false, not, [], ◌∷◌, Option, Some, None, refl, sym, ◌∙◌, ap, subst, if◌then◌else◌}
 use Rattle.tg_model.specs.Tree as tree
 use Rattle.tg_model.specs.Tree.{Tree, truth, choice, op, one, two, Operator, negation, conjunction, disjunction, implication, equality}
-use Rattle.tg_model.specs.Types.{Ty, nat, bool}
-use Rattle.tg_model.specs.Value.{Value, number, boolean, same_truth, same_value}
+use Rattle.tg_model.specs.Types.{Ty, bool}
+use Rattle.tg_model.specs.Value.{Value, boolean, same_truth}
 use Rattle.tg_model.specs.Theory.{Theory}
 use Rattle.tg_model.specs.Denotation.{operated, chosen}
 use Rattle.tg_model.specs.TermTyping.{IsOperation}
 use Rattle.tg_model.specs.WellTyped.{IsWellTyped}
 use Rattle.tg_model.specs.Equality.{same_tree}
 use Rattle.tg_model.proofs.Inversions.{truth_type as known}
-use Rattle.tg_model.proofs.SameValue.{truths, same_itself}
+use Rattle.tg_model.proofs.SameValue.{truths}
 use Rattle.tg_rows.specs.Laws.{Setting}
 use Rattle.tg_rows.specs.Parts.{only_if, and_then, or_else, unary, binary, truth_of, choice_of}
 use Rattle.tg_rows.specs.Rows.{left_truth, right_truth, alike, itself, always, denied, not_truth, not_not, side, if_truth, if_same, eq_truth}
-use Rattle.tg_rows.proofs.PartForms.{some_same, some_if, then_some, trees_same, unary_is, binary_is, truth_is, choice_is}
+use Rattle.tg_rows.proofs.PartForms.{some_if, then_some, trees_same, unary_is, binary_is, truth_is, choice_is}
 use Rattle.tg_rows.proofs.Settings.{value, Typed, boolean_value, one_typed, two_typed, if_typed, truth_typed, op_one, Kept, Keeps, through}
 
 -- the connectives take and give truth values

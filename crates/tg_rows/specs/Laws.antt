@@ -1,6 +1,6 @@
 -- What each row keeps: the value, every type, and the inputs of program calls.
-use Rattle.std.specs.Prelude.{ℕ, false, ◌≡◌, List, [], length, Option, Some, None}
-use Rattle.tg_model.specs.Tree.{Tree, Trees, bind}
+use Rattle.std.specs.Prelude.{ℕ, ◌≡◌, List, length, Some, None}
+use Rattle.tg_model.specs.Tree.{Tree, bind}
 use Rattle.tg_model.specs.Types.{Ty, tys}
 use Rattle.tg_model.specs.Value.{Value}
 use Rattle.tg_model.specs.Theory.{Theory, AreClosed}

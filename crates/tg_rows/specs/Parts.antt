@@ -1,5 +1,5 @@
 -- What a term has at its root, and steps that may find nothing.
-use Rattle.std.specs.Prelude.{ℕ, zero, suc, Bool, true, false, nat_eq, List, []}
+use Rattle.std.specs.Prelude.{ℕ, zero, suc, Bool, true, false}
 use Rattle.std.specs.Prelude.{Option, Some, None}
 use Rattle.tg_model.specs.Tree as tree
 use Rattle.tg_model.specs.Tree.{Tree, Trees, Arms, literal, truth, con, call, choice, case, bind, op, Operator, operator_discrete, none, more}

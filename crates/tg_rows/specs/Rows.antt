@@ -1,10 +1,9 @@
 -- The 48 rewrite schemas, each as a function: what it makes of a term that it applies to at the root. In the comments `a` and `b`
 -- are any terms, `m` and `n` literals, `C` and `D` different constructors.
 use Rattle.std.specs.Prelude.{ℕ, zero, suc, Bool, true, false, not, ◌+◌, ◌-◌, ◌*◌, nat_eq, nat_lt, nat_le, List, [], ◌∷◌, ◌++◌, length, Option, Some, None, slice_get}
-use Rattle.tg_model.specs.Tree as tree
-use Rattle.tg_model.specs.Tree.{Tree, Trees, literal, truth, op, one, two, elements, Operator, successor, negation, conjunction, disjunction, implication, equality, less, less_equal, plus, minus, times, divide, modulo}
+use Rattle.tg_model.specs.Tree.{Tree, literal, truth, op, one, two, elements, Operator, successor, negation, conjunction, disjunction, implication, equality, less, less_equal, plus, minus, times, divide, modulo}
 use Rattle.tg_model.specs.Value.{same_truth}
-use Rattle.tg_model.specs.Theory.{Theory, Function, Body, plain, recursive, numbered, first_constructor}
+use Rattle.tg_model.specs.Theory.{Theory, Body, plain, recursive, numbered, first_constructor}
 use Rattle.tg_model.specs.Denotation.{quotient, remainder, others, datatype_of_place}
 use Rattle.tg_model.specs.Walk.{substituted, instantiated}
 use Rattle.tg_model.specs.Equality.{same_tree}
