@@ -43,7 +43,7 @@ module _ (on_bound : ℕ → ℕ → Tree) (d : ℕ) where
     walked_back (con c ts) m = ap (con c) (all_walked_back ts m)
     walked_back t m = absurd m
 
-    all_walked_back : (ts : Trees) → AreMade ts → walk_all on_bound as_free d ts ≡ ts
+    pub all_walked_back : (ts : Trees) → AreMade ts → walk_all on_bound as_free d ts ≡ ts
     all_walked_back tree.none m = refl
     all_walked_back (tree.more t ts) m = λ i. tree.more (walked_back t m.0 i) (all_walked_back ts m.1 i)
 

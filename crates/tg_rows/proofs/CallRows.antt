@@ -31,11 +31,11 @@ use Rattle.tg_rows.proofs.EqualityRows.{all_typed}
 use Rattle.tg_rows.proofs.TypedLists.{values_map, map_append, map_others, listed_typed, append_typed, others_typed, typed_at_place, as_long}
 use Rattle.tg_rows.proofs.BinderRows.{Opens, constructor_opens, successor_opens, literal_opens}
 
-plain_is : (b : Body) (t : Tree) → plain_body b ≡ Some t → b ≡ plain t
+pub plain_is : (b : Body) (t : Tree) → plain_body b ≡ Some t → b ≡ plain t
 plain_is (plain u) t e = ap plain (some_same e)
 plain_is (recursive place cases) t e = cc e
 
-recursive_is : (b : Body) (r : ℕ × List Tree) → recursive_body b ≡ Some r → b ≡ recursive r.0 r.1
+pub recursive_is : (b : Body) (r : ℕ × List Tree) → recursive_body b ≡ Some r → b ≡ recursive r.0 r.1
 recursive_is (plain u) r e = cc e
 recursive_is (recursive place cases) r e =
     let p : (place, cases) ≡ r = some_same e in λ i. recursive (ap (λ (x : ℕ × List Tree). x.0) p i) (ap (λ (x : ℕ × List Tree). x.1) p i)

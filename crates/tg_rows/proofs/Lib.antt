@@ -8,3 +8,5 @@ pub mod BinderRows
 pub mod CallRows
 pub mod AllRows
 pub mod KnownRows
+pub mod WalkedInputs
+pub mod RowInputs
