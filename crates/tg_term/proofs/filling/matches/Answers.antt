@@ -1,4 +1,4 @@
-use Rattle.std.proofs.Common.{◌≡◌, Some, None, map, length, refl, ap, sym, ◌∙◌, true, false, option_map}
+use Rattle.std.proofs.Common.{◌≡◌, map, length, ap, sym, ◌∙◌, option_map}
 use Rattle.tg_model.specs.Filling.{fill}
 use Rattle.tg_model.specs.Tree.{trees}
 use Rattle.tg_term.specs.Matching.{held, unknown, collected_all, all_of}
