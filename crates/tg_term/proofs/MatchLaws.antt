@@ -1,5 +1,5 @@
 -- What a walk over a pattern notes are the values at which the pattern gives the inputs, where there are such values.
-use Rattle.std.proofs.Common.{ℕ, zero, suc, ◌≡◌, ◌<◌, ◌≤◌, ◌+◌, ◌⊎◌, inl, inr, Bool, true, false, ◌||◌, nat_eq, List, [], ◌∷◌, ◌++◌, map, length, take, drop, append-nil, Option, Some, None, refl, ap, sym, ◌∙◌, subst, arith, add-one}
+use Rattle.std.proofs.Common.{ℕ, zero, suc, ◌≡◌, ◌<◌, ◌≤◌, ◌+◌, ◌⊎◌, inl, inr, Bool, true, false, ◌||◌, List, [], ◌∷◌, ◌++◌, map, length, take, drop, append-nil, Option, Some, None, refl, ap, sym, ◌∙◌, subst, arith, add-one}
 use Rattle.std.specs.Prelude.{slice_get, slice_set, option_map, unwrap_or}
 use Rattle.std.proofs.lemmas.Option.{same_Some, none-some}
 use Rattle.std.proofs.lemmas.Bool.{eqb-true}
@@ -9,7 +9,6 @@ use Rattle.tg_term.proofs.PartLaws.{take_at}
 use Rattle.tg_term.proofs.WalkLists.{height_at}
 use Rattle.tg_model.specs.Tree as model
 use Rattle.tg_model.specs.Tree.{Tree, Trees, bound, free, literal, truth, con, call, put, choice, case, bind, op, trees}
-use Rattle.tg_model.specs.Theory.{numbered}
 use Rattle.tg_model.specs.Value as sem
 use Rattle.tg_model.specs.Value.{Value, Values, number, boolean, made, values, wrong}
 use Rattle.tg_model.specs.Filling.{filled_term, fill, stands, stands_among, HaveVariables, IsMatch}

@@ -1,5 +1,5 @@
 -- The measures of a term from those of the terms below its root.
-use Rattle.std.proofs.Common.{ℕ, zero, suc, ◌≡◌, ◌<◌, ◌≤◌, ◌+◌, ◌-◌, max, min, List, [], ◌∷◌, length, drop, Some, refl, ap, sym, ◌∙◌, arith, add-one}
+use Rattle.std.proofs.Common.{ℕ, suc, ◌≡◌, ◌≤◌, ◌+◌, ◌-◌, max, List, [], ◌∷◌, length, drop, Some, refl, ap, sym, arith, add-one}
 use Rattle.std.proofs.lemmas.List.{drop_all}
 use Rattle.std.specs.Prelude.{slice_get}
 use Rattle.tg_model.specs.Tree as model

@@ -1,8 +1,7 @@
 -- Lists of values, and what a pattern makes of them.
-use Rattle.std.proofs.Common.{ℕ, zero, suc, ◌≡◌, ◌<◌, ◌≤◌, ◌+◌, ◌-◌, max, min, Bool, true, false, ◌&&◌, nat_eq, nat_lt, List, [], ◌∷◌, map, length, take, drop, get_or, Option, Some, None, refl, ap, sym, ◌∙◌, arith, add-one}
+use Rattle.std.proofs.Common.{ℕ, zero, suc, ◌≡◌, ◌+◌, Bool, true, false, ◌&&◌, List, [], ◌∷◌, map, length, drop, Some, None, refl, ap, sym, ◌∙◌, add-one}
 use Rattle.std.specs.Prelude.{slice_get, option_map, unwrap_or}
 use Rattle.std.proofs.lemmas.Option.{slice_get-map}
-use Rattle.tg_model.specs.Tree as model
 use Rattle.tg_model.specs.Tree.{Tree, trees, free}
 use Rattle.tg_model.specs.Theory.{numbered}
 use Rattle.tg_model.specs.Value as sem

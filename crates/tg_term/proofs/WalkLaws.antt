@@ -1,9 +1,9 @@
 -- A walk, by the terms below a root.
-use Rattle.std.proofs.Common.{ℕ, ◌≡◌, ◌≢◌, ◌+◌, List, [], ◌∷◌, map, length, take, Some, refl, ap, sym, ◌∙◌, subst, arith, add-zero}
+use Rattle.std.proofs.Common.{ℕ, ◌≡◌, ◌≢◌, ◌+◌, map, refl, ap, add-zero}
 use Rattle.tg_model.specs.Tree as model
 use Rattle.tg_model.specs.Tree.{Tree, Trees, Arms, con, call, put, choice, case, bind, op, trees}
 use Rattle.tg_model.specs.Walk.{walk, walk_all, walk_arms}
-use Rattle.tg_term.specs.Parts.{Part, IsWalked, term_of, plain, bodies, parts, with_bodies, with_parts}
+use Rattle.tg_term.specs.Parts.{Part, term_of, plain, bodies, parts, with_bodies, with_parts}
 use Rattle.tg_term.specs.Operators.{operator}
 use Rattle.tg_term.specs.View.{tree, arms}
 use Rattle.tg_term.specs.declared.terms.Node.{Node}

@@ -1,8 +1,8 @@
 -- Lists that are walked over: elements are less high than the list, and what was walked to so far.
-use Rattle.std.proofs.Common.{ℕ, zero, suc, ◌≡◌, ◌<◌, ◌+◌, List, [], ◌∷◌, map, length, get_or, refl, ap, arith}
+use Rattle.std.proofs.Common.{ℕ, zero, suc, ◌≡◌, ◌<◌, List, [], ◌∷◌, map, length, get_or, refl, ap, arith}
 use Rattle.tg_model.specs.Tree as model
 use Rattle.tg_model.specs.Tree.{Tree, Trees, Arms, trees}
-use Rattle.tg_model.specs.Walk.{walk, walk_all, walk_arms}
+use Rattle.tg_model.specs.Walk.{walk, walk_all}
 use Rattle.tg_term.specs.Measures.{height, heights, heights_within}
 use Rattle.tg_term.specs.View.{arms}
 use Rattle.tg_term.specs.declared.terms.Branch.{Branch}

@@ -1,5 +1,5 @@
 -- How the logic stores a formula: as a tree of numbers that gives it back.
-use Rattle.std.specs.Prelude.{◌≡◌, ℕ, zero, suc, refl}
+use Rattle.std.specs.Prelude.{◌≡◌, ℕ, zero, suc}
 use Rattle.std.proofs.Common.{ap, sym, ◌∙◌}
 use base.Stored.{Gv, gnil, gnum, gcons, Coded}
 use Rattle.tg_model.specs.Tree.{literal}

@@ -1,9 +1,9 @@
--- Operators by their numbers, nodes with the trees that they stand for, and heights of trees.
+-- Operators by their numbers, nodes with the trees that they stand for, and measures of trees.
 use Rattle.std.specs.Prelude.{◌≡◌, [], ◌∷◌, true}
 use Rattle.std.proofs.Common.{refl}
 use Rattle.tg_model.specs.Tree as trees
 use Rattle.tg_model.specs.Tree.{Tree, more, none, one, two}
-use Rattle.tg_term.specs.Measures.{height}
+use Rattle.tg_term.specs.Measures.{nodes, height, loose_range, counted}
 use Rattle.tg_term.specs.Operators.{operator}
 use Rattle.tg_term.specs.View.{tree}
 use Rattle.tg_term.specs.declared.terms.Node.TheVariants.{Lit, Con, Put, If, Case, Let, Op}
@@ -66,3 +66,46 @@ height-variable = refl
 
 pub height-nested : height (trees.op trees.successor (one (trees.op trees.successor (one first)))) ≡ 2
 height-nested = refl
+
+-- `case ?1 of {0 => 0, Suc x => x + Suc !2}`, where `!2` is bound outside: its branch is the highest part and has the one
+-- loose variable, which is `!1` outside the branch
+abbrev branching : Tree
+branching =
+    trees.case 0 first
+    (trees.arm 0 zero_literal (trees.arm 1 (trees.op trees.plus (two (trees.bound 0) (trees.op trees.successor (one (trees.bound 2))))) trees.end))
+
+pub height-branch : height branching ≡ 3
+height-branch = refl
+
+-- the case, its two leaves, and the four nodes of the second body: variables of a branch are no nodes
+pub nodes-branch : nodes branching ≡ 7
+nodes-branch = refl
+
+pub range-branch : loose_range branching ≡ 2
+range-branch = refl
+
+-- `let x = !0 in !3`, where the second one is `!2` outside
+pub range-let : loose_range (trees.bind (trees.bound 0) (trees.bound 3)) ≡ 3
+range-let = refl
+
+-- the variable of the `let` itself isn't loose
+pub range-own : loose_range (trees.bind first (trees.bound 0)) ≡ 0
+range-own = refl
+
+pub nodes-let : nodes (trees.bind first (trees.bound 0)) ≡ 3
+nodes-let = refl
+
+-- a term of a `let` is as high in its place as its body
+pub height-let : height (trees.bind (trees.op trees.successor (one first)) first) ≡ 2
+height-let = refl
+
+-- one more than the index, of the greatest
+pub range-greatest : loose_range (trees.put (two (trees.bound 4) (trees.bound 1))) ≡ 5
+range-greatest = refl
+
+-- a count stops at 2^64 - 1
+pub counted-end : counted 18446744073709551616 ≡ 18446744073709551615
+counted-end = refl
+
+pub counted-below : counted 18446744073709551614 ≡ 18446744073709551614
+counted-below = refl

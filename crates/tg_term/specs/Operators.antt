@@ -1,6 +1,6 @@
 -- The operators by their numbers: an operator's number is its place, from 1, in the list of those with a name.
 use Rattle.std.specs.Prelude.{◌≡◌, ℕ, zero, suc, ◌+◌, List, [], ◌∷◌, slice_get, unwrap_or, refl}
-use Rattle.std.proofs.Common.{ap, ◌∙◌, arith}
+use Rattle.std.proofs.Common.{◌∙◌, arith}
 use Rattle.tg_model.specs.Theory.{numbered}
 use Rattle.tg_model.specs.Tree.{Operator, operators, successor, negation, conjunction, disjunction, implication, equality, less, less_equal, plus, minus, times, divide, modulo, unnamed}
 

@@ -23,14 +23,14 @@ pub fn fill(alloc: Global, p: &Pattern, vs: &[Value]) -> Result<Vec<Value>, Allo
 }
 
 /// The values of the pattern's variables at which it gives the inputs, or `None` where there are no
-/// such values.
+/// such values. Each variable has to stand in the pattern, for else it can have any value.
 pub fn matches(
     alloc: Global,
     p: &Pattern,
     inputs: &[Value],
 ) -> Result<Option<Vec<Value>>, AllocError>
-    requires { HaveVariables (length p.now.vars) (inputs_of p.now) }
-    ensures { IfOk result (λ o. IsMatch (length p.now.vars) (inputs_of p.now) (map value inputs.now) (option_map (λ vs. map value vs.items) o)) }
+    ensures { HaveVariables (length p.now.vars) (inputs_of p.now) → IfOk result (λ o.
+        IsMatch (length p.now.vars) (inputs_of p.now) (map value inputs.now) (option_map (λ vs. map value vs.items) o)) }
 {
     let mut slots = unknown(alloc, p.vars.len())?;
     collect_all(p.terms.as_slice(), inputs, slots.as_mut_slice());

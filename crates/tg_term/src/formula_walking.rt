@@ -2,7 +2,10 @@
 //! which nothing is replaced is handed on as it is.
 ghost use Rattle.std.specs.Prelude.{◌≡◌, IfOk, Some, unwrap_or};
 ghost use Rattle.tg_model.specs.Closing.{closed};
-ghost use Rattle.tg_model.specs.Walk.{walk_formula};
+ghost use Rattle.tg_model.specs.Formula.{atom, both, implies, all, some, thyp, tested, deep};
+ghost use Rattle.tg_model.specs.Tree.{trees};
+ghost use Rattle.tg_model.specs.Walk.{walk, walk_all, walk_formula};
+ghost use Rattle.tg_types.specs.Types.{ty};
 ghost use Rattle.tg_term.specs.Formulas.{formula};
 ghost use Rattle.tg_term.specs.Substituting.{IsSubstitutedFormula, IsInstantiatedFormula, IsAbstractedFormula};
 
@@ -11,7 +14,7 @@ use crate::substituting::{Abstraction, Arguments, Closing, Terms};
 use crate::terms::Term;
 use crate::walking::{Replace, walk_at, walk_list, within};
 use std::alloc::{AllocError, Global};
-use tg_types::copy;
+use tg_types::{Ty, copy};
 
 /// Each `Free(n)` becomes `vars[n - 1]`, lifted over the quantifiers and binders round it.
 #[tactic(auto, using(crate::proofs::Substituted::kept))]
@@ -69,46 +72,146 @@ fn walk_formula_at<R: Replace>(
         return Ok(None);
     }
     match f.node() {
-        FormulaNode::Atom(t) => match walk_at(alloc, r, t, depth)? {
-            Some(t) => made(alloc, FormulaNode::Atom(t)),
-            None => Ok(None),
-        },
+        FormulaNode::Atom(t) => walk_atom(alloc, r, t, depth),
         FormulaNode::And(f, g) => {
             let left = walk_formula_at(alloc, r, f, depth)?;
             let right = walk_formula_at(alloc, r, g, depth)?;
-            match both_or_none(f, left, g, right)? {
-                Some((f, g)) => made(alloc, FormulaNode::And(f, g)),
-                None => Ok(None),
-            }
+            conjunction(alloc, f, left, g, right)
         }
         FormulaNode::Imp(f, g) => {
             let left = walk_formula_at(alloc, r, f, depth)?;
             let right = walk_formula_at(alloc, r, g, depth)?;
-            match both_or_none(f, left, g, right)? {
-                Some((f, g)) => made(alloc, FormulaNode::Imp(f, g)),
-                None => Ok(None),
-            }
+            implication(alloc, f, left, g, right)
         }
-        FormulaNode::All(t, f) => match walk_formula_at(alloc, r, f, within(depth, 1)?)? {
-            Some(f) => made(alloc, FormulaNode::All(copy(alloc, t)?, f)),
-            None => Ok(None),
-        },
-        FormulaNode::Ex(t, g) => match walk_formula_at(alloc, r, g, within(depth, 1)?)? {
-            Some(g) => made(alloc, FormulaNode::Ex(copy(alloc, t)?, g)),
-            None => Ok(None),
-        },
-        FormulaNode::Thyp(f) => match walk_formula_at(alloc, r, f, depth)? {
-            Some(f) => made(alloc, FormulaNode::Thyp(f)),
-            None => Ok(None),
-        },
-        FormulaNode::Tested(ts) => match walk_list(alloc, r, ts.as_slice(), depth)? {
-            Some(us) => made(alloc, FormulaNode::Tested(us)),
-            None => Ok(None),
-        },
-        FormulaNode::Deep(k, ts) => match walk_list(alloc, r, ts.as_slice(), depth)? {
-            Some(us) => made(alloc, FormulaNode::Deep(*k, us)),
-            None => Ok(None),
-        },
+        FormulaNode::All(t, f) => {
+            let walked = walk_formula_at(alloc, r, f, within(depth, 1)?)?;
+            universal(alloc, t, walked)
+        }
+        FormulaNode::Ex(t, g) => {
+            let walked = walk_formula_at(alloc, r, g, within(depth, 1)?)?;
+            existential(alloc, t, walked)
+        }
+        FormulaNode::Thyp(f) => {
+            let walked = walk_formula_at(alloc, r, f, depth)?;
+            marked(alloc, walked)
+        }
+        FormulaNode::Tested(ts) => walk_tested(alloc, r, ts.as_slice(), depth),
+        FormulaNode::Deep(k, ts) => walk_deep(alloc, r, *k, ts.as_slice(), depth),
+    }
+}
+
+// What is made of the parts stands in functions of its own, which are not inlined, so that the frames of
+// the walk are small.
+
+#[inline(never)]
+fn walk_atom<R: Replace>(
+    alloc: Global,
+    r: &R,
+    t: &Term,
+    depth: u64,
+) -> Result<Option<Formula>, AllocError>
+    ensures { IfOk result (λ o. unwrap_or o (atom t.now) ≡ atom (walk (R.on_bound r.now) (R.on_free r.now) depth t.now)) }
+{
+    match walk_at(alloc, r, t, depth)? {
+        Some(t) => made(alloc, FormulaNode::Atom(t)),
+        None => Ok(None),
+    }
+}
+
+#[inline(never)]
+fn walk_tested<R: Replace>(
+    alloc: Global,
+    r: &R,
+    ts: &[Term],
+    depth: u64,
+) -> Result<Option<Formula>, AllocError>
+    ensures { IfOk result (λ o. unwrap_or o (tested (trees ts.now)) ≡ tested (walk_all (R.on_bound r.now) (R.on_free r.now) depth (trees ts.now))) }
+{
+    match walk_list(alloc, r, ts, depth)? {
+        Some(us) => made(alloc, FormulaNode::Tested(us)),
+        None => Ok(None),
+    }
+}
+
+#[inline(never)]
+fn walk_deep<R: Replace>(
+    alloc: Global,
+    r: &R,
+    k: u64,
+    ts: &[Term],
+    depth: u64,
+) -> Result<Option<Formula>, AllocError>
+    ensures { IfOk result (λ o. unwrap_or o (deep k (trees ts.now)) ≡ deep k (walk_all (R.on_bound r.now) (R.on_free r.now) depth (trees ts.now))) }
+{
+    match walk_list(alloc, r, ts, depth)? {
+        Some(us) => made(alloc, FormulaNode::Deep(k, us)),
+        None => Ok(None),
+    }
+}
+
+#[inline(never)]
+fn conjunction(
+    alloc: Global,
+    f: &Formula,
+    left: Option<Formula>,
+    g: &Formula,
+    right: Option<Formula>,
+) -> Result<Option<Formula>, AllocError>
+    ensures { IfOk result (λ o. unwrap_or o (both f.now g.now) ≡ both (unwrap_or left f.now) (unwrap_or right g.now)) }
+{
+    match both_or_none(f, left, g, right)? {
+        Some((f, g)) => made(alloc, FormulaNode::And(f, g)),
+        None => Ok(None),
+    }
+}
+
+#[inline(never)]
+fn implication(
+    alloc: Global,
+    f: &Formula,
+    left: Option<Formula>,
+    g: &Formula,
+    right: Option<Formula>,
+) -> Result<Option<Formula>, AllocError>
+    ensures { IfOk result (λ o. unwrap_or o (implies f.now g.now) ≡ implies (unwrap_or left f.now) (unwrap_or right g.now)) }
+{
+    match both_or_none(f, left, g, right)? {
+        Some((f, g)) => made(alloc, FormulaNode::Imp(f, g)),
+        None => Ok(None),
+    }
+}
+
+#[inline(never)]
+fn universal(alloc: Global, t: &Ty, walked: Option<Formula>) -> Result<Option<Formula>, AllocError>
+    ensures { IfOk result (λ o. (f : _) → unwrap_or o (all (ty t.now) f) ≡ all (ty t.now) (unwrap_or walked f)) }
+{
+    match walked {
+        Some(f) => made(alloc, FormulaNode::All(copy(alloc, t)?, f)),
+        None => Ok(None),
+    }
+}
+
+#[inline(never)]
+fn existential(
+    alloc: Global,
+    t: &Ty,
+    walked: Option<Formula>,
+) -> Result<Option<Formula>, AllocError>
+    ensures { IfOk result (λ o. (f : _) → unwrap_or o (some (ty t.now) f) ≡ some (ty t.now) (unwrap_or walked f)) }
+{
+    match walked {
+        Some(f) => made(alloc, FormulaNode::Ex(copy(alloc, t)?, f)),
+        None => Ok(None),
+    }
+}
+
+#[inline(never)]
+fn marked(alloc: Global, walked: Option<Formula>) -> Result<Option<Formula>, AllocError>
+    ensures { IfOk result (λ o. (f : _) → unwrap_or o (thyp f) ≡ thyp (unwrap_or walked f)) }
+{
+    match walked {
+        Some(f) => made(alloc, FormulaNode::Thyp(f)),
+        None => Ok(None),
     }
 }
 

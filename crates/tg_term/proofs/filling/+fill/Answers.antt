@@ -1,4 +1,4 @@
-use Rattle.std.proofs.Common.{◌≡◌, map, ◌∙◌, ap, sym}
+use Rattle.std.proofs.Common.{map, ◌∙◌, ap, sym}
 use Rattle.std.proofs.lemmas.List.{take_all}
 use Rattle.tg_model.specs.Filling.{filled_term}
 use Rattle.tg_term.specs.Values.{value}

@@ -1,4 +1,4 @@
-use Rattle.std.proofs.Common.{◌++◌, [], ◌∷◌, None, map, ap, ◌∙◌, refl}
+use Rattle.std.proofs.Common.{◌++◌, [], ◌∷◌, None, map, ap, ◌∙◌}
 use Rattle.std.proofs.lemmas.List.{map-append}
 use Rattle.tg_term.specs.Matching.{held}
 use Rattle.tg_term.proofs.MatchLaws.{unknown_more}

@@ -1,4 +1,4 @@
-use Rattle.std.proofs.Common.{◌≡◌, ◌+◌, ◌-◌, max, Some, ap, sym, ◌∙◌, length, arith, refl}
+use Rattle.std.proofs.Common.{◌≡◌, ◌+◌, max, Some, ap, ◌∙◌, arith, refl}
 use Rattle.std.specs.Prelude.{slice_get, option_map}
 use Rattle.std.proofs.lemmas.Option.{slice_get_read}
 use Rattle.tg_model.specs.Tree.{con, trees}

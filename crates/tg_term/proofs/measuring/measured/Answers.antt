@@ -1,10 +1,9 @@
-use Rattle.std.proofs.Common.{◌≡◌, ◌+◌, ◌-◌, max, Some, ap, sym, ◌∙◌, length, arith}
+use Rattle.std.proofs.Common.{◌≡◌, ◌+◌, ◌-◌, max, Some, ap, sym, ◌∙◌, arith}
 use Rattle.std.specs.Prelude.{slice_get, option_map}
 use Rattle.tg_term.specs.Measures.{counted}
 use Rattle.tg_term.specs.Parts.{seen, parts}
 use Rattle.tg_term.specs.View.{tree}
 use Rattle.tg_term.proofs.MeasureLaws.{leads_first, leads_on, leads_end}
-use Rattle.tg_term.proofs.PartLaws.{none_within}
 use Rattle.tg_term.proofs.measuring.measured.Goals as goal
 
 pub loop-at-init : goal.loop-at-init

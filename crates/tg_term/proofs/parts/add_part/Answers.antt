@@ -1,7 +1,6 @@
-use Rattle.std.proofs.Common.{rules, ◌≡◌, ◌≢◌, ◌++◌, [], ◌∷◌, List, map, take, ap, sym, ◌∙◌, arith, unwrap_or}
+use Rattle.std.proofs.Common.{◌≡◌, ◌≢◌, ◌++◌, [], ◌∷◌, ap, ◌∙◌, arith, unwrap_or}
 use Rattle.std.proofs.lemmas.Grind.{common_steps}
-use Rattle.tg_model.specs.Tree.{Tree}
-use Rattle.tg_term.specs.Parts.{parts, seen, term_of}
+use Rattle.tg_term.specs.Parts.{parts, seen}
 use Rattle.tg_term.specs.View.{tree}
 use Rattle.tg_term.proofs.PartLaws.{begun, added}
 use Rattle.tg_term.proofs.parts.add_part.Goals.{then-is_empty-2+in_ok-share_parts-in-Some, else-is_empty-2}
