@@ -1,11 +1,11 @@
 -- What a text of a rule is put together from: a token before and behind, repetitions, types in brackets, connectives.
-use Rattle.std.proofs.Common.{◌≡◌, ℕ, true, false, nat_eq, ◌⊎◌, List, [], ◌∷◌, ◌++◌, Option, Some, None, inl, inr, refl, sym, ap, subst, ◌∙◌, append_assoc}
-use Rattle.tg_rules.specs.Rule.{nt, has, ◌∙∙◌, ◌▸◌, ◌◂◌}
+use Rattle.std.proofs.Common.{◌≡◌, ℕ, true, ◌⊎◌, List, [], ◌∷◌, ◌++◌, Option, Some, None, inl, inr, refl, sym, ap, subst, ◌∙◌, append_assoc}
+use Rattle.tg_rules.specs.Rule.{has, ◌∙∙◌, ◌▸◌, ◌◂◌}
 use Rattle.tg_rules.specs.Texts.{Is}
 use Rattle.tg_grammar.specs.declared.types.RawTy.{RawTy}
 use Rattle.tg_grammar.specs.Kinds.{close_paren, comma}
 use Rattle.tg_grammar.specs.Seen.{Seen}
-use Rattle.tg_grammar.specs.Parts.{Part, Value, WholeType, MoreTypes}
+use Rattle.tg_grammar.specs.Parts.{Part, Value}
 use Rattle.tg_rules.specs.Repetition.{listed}
 use Rattle.tg_grammar.specs.Making.{applied, bracketed}
 use Rattle.tg_grammar.specs.Notation.{Grammar, word, many, some}

@@ -13,8 +13,6 @@ use Rattle.tg_grammar.specs.Seen.{Seen}
 use Rattle.tg_grammar.specs.Parts.{Mode, Part, Value, WholeType, TypeAtom, AfterType, Application, Atom, Atoms, Answer, AnswerAtom, AnswerAtoms, Formula, MarkedFormula, InnerFormula}
 use Rattle.tg_grammar.specs.Making.{applied, bracketed, connected}
 use Rattle.tg_grammar.specs.Notation.{word}
-use Rattle.tg_grammar.specs.TableParts.{connective}
-use Rattle.tg_grammar.specs.Operators.{and_operator, implies_operator}
 use Rattle.tg_grammar.specs.Page.{page}
 use Rattle.tg_grammar.specs.Table.{table}
 use Rattle.tg_grammar.specs.Reading.{kind}

@@ -1,7 +1,7 @@
 -- How the rules are written. A quoted text is a token, `∙∙` stands between what follows one another, `∣` between the sides of a
 -- choice, and behind `⇒` stands the value, made of the parts that have one.
 use Prim.Native.String.{String}
-use Rattle.std.specs.Prelude.{ℕ, List, [], ◌∷◌, ◌++◌, codes}
+use Rattle.std.specs.Prelude.{ℕ, List, [], ◌∷◌, codes}
 use Rattle.tg_tables.specs.Rows.{Entry, entry}
 use Rattle.tg_tables.specs.Lists.{symbol_list}
 use Rattle.tg_rules.specs.Rule.{Rule, tok, alt, opt, act, seq}

@@ -1,7 +1,7 @@
 -- The grammar: each part with its rule. Each repetition is a part of its own. Sides of a choice that have a reader of their own
 -- have a name, and stand above the rules.
 use Rattle.std.specs.Prelude.{ℕ, true, false, Some, None, List, [], ◌∷◌}
-use Rattle.tg_rules.specs.Rule.{nt, opt, act, ◌∙∙◌}
+use Rattle.tg_rules.specs.Rule.{nt, opt, ◌∙∙◌}
 use Rattle.tg_rules.specs.Repetition.{folded}
 use Rattle.tg_grammar.specs.declared.types.RawTy.TheVariants as types
 use Rattle.tg_grammar.specs.declared.terms.RawTerm.{RawTerm}

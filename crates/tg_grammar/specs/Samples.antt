@@ -2,7 +2,7 @@
 use Rattle.std.specs.Prelude.{ℕ, List, [], ◌∷◌, map}
 use Rattle.tg_grammar.specs.Kinds.{close_paren, open_brace, close_brace, open_bracket, close_bracket, semicolon, equal, double_arrow, double_colon}
 use Rattle.tg_grammar.specs.Kinds.{bang, theory_word, version_word, begin_word, end_word, program_word, outcomes_word, certificate_word, true_word}
-use Rattle.tg_grammar.specs.Kinds.{nat_word, other_word, depth_word, bound_word, seed_word, tries_word, width_word, raised_word, thyp_word, true_rule}
+use Rattle.tg_grammar.specs.Kinds.{nat_word, other_word, depth_word, bound_word, seed_word, tries_word, width_word, raised_word, thyp_word}
 use Rattle.tg_grammar.specs.Kinds.{sym_rule, zero_number, one_number}
 use Rattle.tg_grammar.specs.Seen.{Seen}
 use Rattle.tg_grammar.specs.Parts.{in_theory, in_certificate, Part, Theory, Judge, Check, Declaration, Constructor, Equation, Pattern, SimpleType}

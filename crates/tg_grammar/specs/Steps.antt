@@ -1,14 +1,13 @@
 -- The steps of a certificate: the 26 rules of the calculus, each with its arguments.
 use Prim.Native.String.{String}
-use Rattle.std.specs.Prelude.{ℕ, Some, None, List, [], ◌∷◌}
-use Rattle.tg_rules.specs.Rule.{tok, nt, act, ◌∙∙◌}
+use Rattle.std.specs.Prelude.{Some, List, [], ◌∷◌}
+use Rattle.tg_rules.specs.Rule.{tok, nt, ◌∙∙◌}
 use Rattle.tg_grammar.specs.declared.certificates.Argument.{Argument}
 use Rattle.tg_grammar.specs.declared.certificates.Argument.TheVariants.{Context, Formula, Atom, Atoms, Number, Numbers, Word}
 use Rattle.tg_grammar.specs.declared.certificates.RawLine.{RawLine}
 use Rattle.tg_grammar.specs.Making.{no_arguments, with_arguments, of_rule}
 use Rattle.tg_grammar.specs.Notation.{Grammar, quoted, ◌⇒◌, ◌∣◌, word, number}
 use Rattle.tg_grammar.specs.Parts as parts
-use Rattle.tg_grammar.specs.Seen.{Seen}
 
 -- the name of a rule, and its arguments, of which there is one at least
 pub record RuleRow : Type 0 where

@@ -4,7 +4,7 @@ use Rattle.tg_rules.specs.Rule.{nt, opt, ◌∙∙◌}
 use Rattle.tg_grammar.specs.declared.types.RawTy.{RawTy}
 use Rattle.tg_grammar.specs.declared.formulas.RawFormula.{RawFormula}
 use Rattle.tg_grammar.specs.Operators.{and_operator, implies_operator}
-use Rattle.tg_grammar.specs.Notation.{Grammar, ◌▸◌, ◌◂◌, ◌⇒◌, ◌∣◌, ◌means◌, word, some}
+use Rattle.tg_grammar.specs.Notation.{Grammar, ◌▸◌, ◌⇒◌, ◌∣◌, ◌means◌, word, some}
 use Rattle.tg_grammar.specs.Parts.{WholeType, MoreTypes, Formula, MarkedFormula}
 use Rattle.tg_grammar.specs.Making.{connected}
 

@@ -1,5 +1,5 @@
 -- Repetitions, read one after another: what was read so far stands in front of what is still read.
-use Rattle.std.proofs.Common.{◌≡◌, ◌∙◌, sym, true, false, List, [], ◌∷◌, ◌++◌}
+use Rattle.std.proofs.Common.{◌≡◌, true, false, List, [], ◌∷◌, ◌++◌}
 use Rattle.tg_rules.specs.Reader.{Read, ok, err, starts, token_at}
 use Rattle.tg_rules.specs.Repetition.{with_front}
 use Rattle.tg_rules.proofs.Repetition.{front_end, front_next, front_fault, without_front, last_one, one_behind, some_fault}

@@ -1,10 +1,8 @@
 -- Each part is read as its rule says.
 use Rattle.std.proofs.Common.{◌≡◌, ℕ, true, false, List, [], ◌∷◌, Option, Some, None, refl, ap, ◌∙◌}
-use Rattle.std.proofs.lemmas.Bool.{cases_Bool}
 use Rattle.tg_rules.specs.Reader.{Read, ok, err, out, mapped, starts, token_at}
 use Rattle.tg_grammar.specs.declared.types.RawTy.{RawTy}
 use Rattle.tg_grammar.specs.Kinds.{close_paren}
-use Rattle.tg_grammar.specs.First.{words}
 use Rattle.tg_grammar.specs.Making.{applied, bracketed}
 use Rattle.tg_grammar.specs.Seen.{Seen}
 use Rattle.tg_grammar.specs.Parts.{SimpleType, TypeAtom, WholeType, AfterType}

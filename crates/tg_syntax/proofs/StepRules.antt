@@ -3,7 +3,7 @@ use Rattle.std.proofs.Common.{◌≡◌, ℕ, ◌+◌, ◌<◌, length, drop, ge
 use Rattle.std.proofs.lemmas.Bool.{cases_Bool}
 use Rattle.std.proofs.lemmas.List.{drop_more}
 use Rattle.tg_rules.specs.Rule.{has}
-use Rattle.tg_rules.specs.Reader.{Read, ok, err, out, mapped, followed, starts, token_at}
+use Rattle.tg_rules.specs.Reader.{Read, ok, err, out, mapped, followed, starts}
 use Rattle.tg_grammar.specs.declared.certificates.Argument.{Argument}
 use Rattle.tg_grammar.specs.declared.certificates.RawLine.{RawLine}
 use Rattle.tg_grammar.specs.First.{rules}

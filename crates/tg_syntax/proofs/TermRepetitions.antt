@@ -1,5 +1,5 @@
 -- The repetitions of terms, read one after another: what was read so far stands in front of what is still read, or is folded.
-use Rattle.std.proofs.Common.{◌≡◌, ℕ, Bool, true, false, Some, None, Err, List, [], ◌∷◌, ◌++◌, refl, sym, ap, ◌∙◌, if◌then◌else◌}
+use Rattle.std.proofs.Common.{◌≡◌, ℕ, Bool, true, false, Some, None, Err, List, [], ◌∷◌, ◌++◌, refl, sym, ◌∙◌, if◌then◌else◌}
 use Rattle.tg_rules.specs.Reader.{Read, ok, err, out, mapped, followed, starts, token_at}
 use Rattle.tg_rules.specs.Repetition.{listed, folded, with_front, fold_from}
 use Rattle.tg_rules.proofs.Repetition.{front_end, front_next, front_fault, fold_end, fold_next, fold_fault, without_front, last_one, one_behind, some_fault, some_end, some_next, many_none, many_some}
