@@ -4,6 +4,8 @@ A symbol of a rule is a part where GRAMMAR has it, else a kind of token. place(p
 text of the part, else the number of the words that begin declarations before the first token with which no text goes on.
 """
 
+import re
+
 COUNTED = {'datatype', 'primrec', 'definition', 'program', 'spec', 'outcomes', 'certificate'}
 RESERVED = COUNTED | set('theory version begin end where if then else let in case of div mod Suc True False nat bool'.split())
 
@@ -28,9 +30,34 @@ Eqn: word Pats = Term ;
 Pats: nothing | Pat Pats
 Pat: word | 0 | ( word Words ) | ( Suc Words )
 Words: nothing | word Words
-Term: if Term then Term else Term | let word = Term in Term | case Term of { Branch Branches } | Imp
+Outcomes: outcomes depth number bound number seed number tries number width number begin Items end
+Items: nothing | Item Items
+Item: answer number Value ; | raised number ;
+Value: Vatom | word Vatom Vatoms
+Vatoms: nothing | Vatom Vatoms
+Vatom: number | True | False | word | ( Value )
+Check: Theory Cert
+Cert: certificate 1 begin Lines end
+Lines: nothing | Line Lines
+Line: number Step ;
+Step: hyp Context Formula | weak number Formula | cut number number | grow number Context | andI number number | andL number
+Step: andR number | impI number Formula | mp number number | allI number | allE number Atom' | exI number Formula Atom'
+Step: exE number number | thypI number | thypE number | true Context | false number Formula | split number number Atom'
+Step: refl Context Atom' | sym number | trans number number | replace number number Formula | schema Context word Atom'
+Step: exhaust number number Numbers | deep Context number Atom' Atoms' | compute Context Atom'
+Numbers: nothing | number Numbers
+Context: { } | { Tyatom Commas }
+Commas: nothing | , Tyatom Commas
+Formula: [ Term' ] | ( Formula & Formula ) | ( Formula --> Formula ) | ( ALL Tyatom . Formula ) | ( EX Tyatom . Formula )
+Formula: ( THYP Formula ) | ( tested Atom' Atoms' ) | ( deep number Atom' Atoms' )
+"""
+
+# the parts of terms, in a theory; those of a certificate have a ' behind their names, and its own variables
+TERMS = """
+Term: if Term then Term else Term | let Var = Term in Term | case Term of { Branch Branches } | Imp
 Branches: nothing | , Branch Branches
-Branch: 0 => Term | Suc word => Term | word Words => Term
+Branch: 0 => Term | Suc Var => Term | word Vars => Term
+Vars: nothing | Var Vars
 Imp: Or | Or --> Imp
 Or: And | And BAR Or
 And: Not | Not & And
@@ -41,18 +68,22 @@ Mul: App | Mul * App | Mul div App | Mul mod App
 App: Atom | word Atom Atoms | Suc Atom Atoms
 Atoms: nothing | Atom Atoms
 Atom: number | True | False | word | ( Term )
-Outcomes: outcomes depth number bound number seed number tries number width number begin Items end
-Items: nothing | Item Items
-Item: answer number Value ; | raised number ;
-Value: Vatom | word Vatom Vatoms
-Vatoms: nothing | Vatom Vatoms
-Vatom: number | True | False | word | ( Value )
 """
+IN_THEORY = 'Var: word'
+IN_CERTIFICATE = "Var': ! number\nAtom': ? number | ! number"
+
+
+def in_certificate(text):
+    """The same parts with a ' behind their names."""
+    parts = {line.split(': ', 1)[0] for line in text.strip().splitlines()} | {'Var'}
+    return re.sub(r'\b[A-Z][a-z]*\b', lambda name: name[0] + "'" * (name[0] in parts), text)
 
 
 def rules():
     grammar = {}
-    for line in TEXT.strip().splitlines():
+    for line in '\n'.join([TEXT, TERMS, IN_THEORY, in_certificate(TERMS), IN_CERTIFICATE]).strip().splitlines():
+        if not line:
+            continue
         part, sides = line.split(': ', 1)
         for side in sides.split(' | '):
             symbols = [] if side == 'nothing' else side.replace('BAR', '|').split()

@@ -7,8 +7,7 @@ use Rattle.tg_grammar.specs.Parts as parts
 use Rattle.tg_grammar.specs.Seen.{seen}
 use Rattle.tg_grammar.specs.Reading.{IsText}
 use Rattle.tg_grammar.proofs.Readings.{not_both}
-use Rattle.tg_syntax.specs.Parsing.{load_limit}
-use Rattle.tg_lex.specs.Load.{load_passes}
+use Rattle.tg_lex.specs.Load.{load_limit, load_passes}
 use Rattle.tg_cmd.specs.declared.answer.Answer.{Answer}
 use Rattle.tg_cmd.specs.declared.answer.Answer.TheVariants.{Done, TestsFailed, Usage, ReadFault, WriteFault, Memory, Refused, Limit}
 use Rattle.tg_cmd.specs.declared.answer.Refusal.TheVariants.{Early}

@@ -10,7 +10,7 @@ use Rattle.tg_grammar.specs.declared.terms.RawTerm.TheVariants as terms
 use Rattle.tg_grammar.specs.declared.terms.RawTerm.TheVariants.{rolls-Op}
 use Rattle.tg_grammar.specs.declared.terms.RawTerm.TheViews.{out-RawTerm, out-roll-RawTerm}
 use Rattle.tg_grammar.specs.declared.terms.RawTerm.TheOpen as layer
-use Rattle.tg_grammar.specs.Kinds.{arrow}
+use Rattle.tg_grammar.specs.Operators.{implies_operator}
 use Rattle.tg_cmd.specs.declared.form.Relation.{Relation}
 use Rattle.tg_cmd.specs.declared.form.Relation.TheVariants.{Less, LessEqual}
 use Rattle.tg_cmd.specs.Form.{Form, compared, named, called, implied, raw_theory}
@@ -61,8 +61,8 @@ compared_right r s a b c d e = second_of _ _ a b c d e
 
 compared_kind : (r s : Relation) (a b c d : RawTerm) → compared r a b ≡ compared s c d → r ≡ s
 compared_kind Less Less a b c d e = refl
-compared_kind Less LessEqual a b c d e = let wrong : 11 ≡ 12 = kind_same _ _ _ _ e in absurd (omega (arith, wrong))
-compared_kind LessEqual Less a b c d e = let wrong : 12 ≡ 11 = kind_same _ _ _ _ e in absurd (omega (arith, wrong))
+compared_kind Less LessEqual a b c d e = let wrong : 7 ≡ 8 = kind_same _ _ _ _ e in absurd (omega (arith, wrong))
+compared_kind LessEqual Less a b c d e = let wrong : 8 ≡ 7 = kind_same _ _ _ _ e in absurd (omega (arith, wrong))
 compared_kind LessEqual LessEqual a b c d e = refl
 
 -- the parts of a theory of the form
@@ -73,7 +73,7 @@ implied_parts p x c d m n k l e =
     (compared_kind c d _ _ _ _ left, number_same m n (compared_right c d _ _ _ _ left), compared_kind k l _ _ _ _ right)
 
 -- where the sides of an implication are known, and no check is the second one
-pub no_check : (p x : List ℕ) (t a b : RawTerm) → t ≡ terms.Op arrow (a ∷ b ∷ []) → ((k : Relation) → b ≡ compared k (named x) (called p x) → ⊥)
+pub no_check : (p x : List ℕ) (t a b : RawTerm) → t ≡ terms.Op implies_operator (a ∷ b ∷ []) → ((k : Relation) → b ≡ compared k (named x) (called p x) → ⊥)
     → (c : Relation) (n : ℕ) (k : Relation) → t ≡ implied p x c n k → ⊥
 no_check p x t a b e none c n k f = none k (second_of _ _ _ _ _ _ (sym e ∙ f))
 

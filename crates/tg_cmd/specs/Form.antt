@@ -5,7 +5,7 @@ use Rattle.tg_grammar.specs.declared.terms.RawTerm.{RawTerm}
 use Rattle.tg_grammar.specs.declared.terms.RawTerm.TheVariants as terms
 use Rattle.tg_grammar.specs.declared.declarations.RawDecl.TheVariants as declarations
 use Rattle.tg_grammar.specs.declared.declarations.RawTheory.{RawTheory}
-use Rattle.tg_grammar.specs.Kinds.{less, less_equal, arrow}
+use Rattle.tg_grammar.specs.Operators.{less_operator, less_equal_operator, implies_operator}
 use Rattle.tg_cmd.specs.declared.form.Relation.{Relation}
 use Rattle.tg_cmd.specs.declared.form.Relation.TheVariants.{Less, LessEqual}
 
@@ -25,13 +25,13 @@ IsForm f = f.program ≢ f.variable
 
 -- ---- the theory as it is read
 
--- the operator's code
-abbrev pub kind_of : Relation → ℕ
-kind_of Less = less
-kind_of LessEqual = less_equal
+-- the number of the operator
+abbrev pub operator_of : Relation → ℕ
+operator_of Less = less_operator
+operator_of LessEqual = less_equal_operator
 
 abbrev pub compared : Relation → RawTerm → RawTerm → RawTerm
-compared r a b = terms.Op (kind_of r) (a ∷ b ∷ [])
+compared r a b = terms.Op (operator_of r) (a ∷ b ∷ [])
 
 -- a name without arguments
 abbrev pub named : List ℕ → RawTerm
@@ -43,7 +43,7 @@ called program variable = terms.Use program (named variable ∷ [])
 -- `x R limit --> x Q program x`
 abbrev pub implied : List ℕ → List ℕ → Relation → ℕ → Relation → RawTerm
 implied program x constraint limit check =
-    terms.Op arrow (compared constraint (named x) (terms.Num limit) ∷ compared check (named x) (called program x) ∷ [])
+    terms.Op implies_operator (compared constraint (named x) (terms.Num limit) ∷ compared check (named x) (called program x) ∷ [])
 
 abbrev pub raw_theory : Form → RawTheory
 raw_theory f = record {

@@ -2,12 +2,12 @@
 use Rattle.std.specs.Prelude.{ℕ, ◌≡◌, ◌⊎◌, true, false, List, Option}
 use Rattle.tg_lex.specs.declared.token.Token.{Token}
 use Rattle.tg_lex.specs.Grammar.{Reads, HasWrongByte, HasOpenComment, HasLargeNumber}
-use Rattle.tg_lex.specs.Load.{load_passes}
+use Rattle.tg_lex.specs.Load.{load_limit, load_passes}
 use Rattle.tg_grammar.specs.Seen.{seen, declarations}
 use Rattle.tg_grammar.specs.Parts.{Part, Value, Theory}
 use Rattle.tg_grammar.specs.Parts as parts
 use Rattle.tg_grammar.specs.Reading.{IsText}
-use Rattle.tg_syntax.specs.Parsing.{load_limit, IsFormFault}
+use Rattle.tg_syntax.specs.Parsing.{IsFormFault}
 use Rattle.tg_types.specs.declared.options.Settings.{Settings}
 use Rattle.tg_cmd.specs.Form.{Form, IsForm, raw_theory}
 use Rattle.tg_cmd.specs.Outcomes.{raw_outcomes}

@@ -6,7 +6,7 @@ ghost use Rattle.tg_grammar.specs.declared.types.RawTy.TheVariants as types;
 ghost use Rattle.tg_cmd.specs.Form.{compared, named, called, implied, HasForm};
 ghost use Rattle.tg_cmd.specs.Views.{form_view};
 
-use tg_grammar::kinds::{ARROW, LESS, LESS_EQUAL};
+use tg_grammar::operators::{IMPLIES, LESS, LESS_EQUAL};
 use tg_grammar::{RawDecl, RawTerm, RawTheory, RawTy};
 
 /// A comparison of naturals.
@@ -107,7 +107,7 @@ fn specification_of(declaration: &RawDecl) -> Option<(&[u8], &RawTerm)>
 fn comparisons_of(term: &RawTerm, program: &[u8], variable: &[u8]) -> Option<Comparisons>
     ensures { MatchOption result ((c : _) (l : _) (k : _) → term.now ≡ implied program.now variable.now c l k → ⊥) (λ s. term.now ≡ implied program.now variable.now s.constraint s.limit s.check) }
 {
-    let (premise, conclusion) = operands(ARROW, term)?;
+    let (premise, conclusion) = operands(IMPLIES, term)?;
     let (constraint, limit) = constraint_of(premise, variable)?;
     let check = check_of(conclusion, program, variable)?;
     Some(Comparisons {
@@ -154,11 +154,11 @@ fn is_check(compared: &Compared, program: &[u8], variable: &[u8]) -> bool
 }
 
 /// The operands of an operator with two.
-fn operands(kind: u32, term: &RawTerm) -> Option<(&RawTerm, &RawTerm)>
-    ensures { MatchOption result ((a b : _) → term.now ≡ terms.Op kind (a ∷ b ∷ []) → ⊥) (λ p. term.now ≡ terms.Op kind (p.0.now ∷ p.1.now ∷ [])) }
+fn operands(wanted: u32, term: &RawTerm) -> Option<(&RawTerm, &RawTerm)>
+    ensures { MatchOption result ((a b : _) → term.now ≡ terms.Op wanted (a ∷ b ∷ []) → ⊥) (λ p. term.now ≡ terms.Op wanted (p.0.now ∷ p.1.now ∷ [])) }
 {
     match term {
-        RawTerm::Op(operator, operands) if *operator == kind => match operands.as_slice() {
+        RawTerm::Op(operator, operands) if *operator == wanted => match operands.as_slice() {
             [left, right] => Some((left, right)),
             _ => None,
         },

@@ -11,6 +11,8 @@ mod form;
 mod options;
 mod outcomes;
 mod output;
+#[cfg(test)]
+mod reading_tests;
 mod report;
 #[cfg(test)]
 mod tests;

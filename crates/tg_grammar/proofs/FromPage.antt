@@ -10,10 +10,13 @@ use Rattle.tg_grammar.specs.Kinds.{open_paren, close_paren, and, arrow}
 use Rattle.tg_grammar.specs.Seen.{Seen}
 use Rattle.tg_grammar.specs.Parts.{Mode, Part, Value, WholeType, TypeAtom, AfterType, Application, Atom, Atoms, Answer, AnswerAtom, AnswerAtoms, Formula, MarkedFormula, InnerFormula}
 use Rattle.tg_grammar.specs.Making.{applied, connected}
-use Rattle.tg_grammar.specs.Page.{word, page}
+use Rattle.tg_grammar.specs.Notation.{word}
+use Rattle.tg_grammar.specs.TableParts.{connective}
+use Rattle.tg_grammar.specs.Operators.{and_operator, implies_operator}
+use Rattle.tg_grammar.specs.Page.{page}
 use Rattle.tg_grammar.specs.Table.{table}
 use Rattle.tg_grammar.specs.Reading.{kind}
-use Rattle.tg_grammar.proofs.TextParts.{inside, opened, open_with, closed, close_with, same_type, enclosed, more_types, no_more, one_more, kind_is}
+use Rattle.tg_grammar.proofs.TextParts.{inside, opened, open_with, closed, close_with, same_type, enclosed, more_types, no_more, some_more}
 
 module _ where
   abbrev R : (n : Part) → Value n → List Seen → Type 0
@@ -34,10 +37,10 @@ module _ where
       (subst (λ z. Is kind R (table WholeType) (applied x.0 x.1) z) (sym es) (with_atom x.0 x.1 p q (of_rule kind table TypeAtom x.0 p a) w))
   whole_type v ts (inr (x, e, b)) =
       inl (
-        (x.0, (x.1.0 ∷ x.1.1.0, Some x.1.1.1)),
+        (x.0, (x.1.0, Some x.1.1)),
         e,
-        inside R open_paren (nt WholeType ∙∙ more_types) (nt WholeType ∙∙ nt AfterType) x (x.0, (x.1.0 ∷ x.1.1.0, Some x.1.1.1))
-            (λ q s. (s.0, s.1, s.2, by_rule kind table AfterType (x.1.0 ∷ x.1.1.0, Some x.1.1.1) s.1 (inr (x.1, refl, s.3)), s.4)) ts b,
+        inside R open_paren (nt WholeType ∙∙ more_types) (nt WholeType ∙∙ nt AfterType) x (x.0, (x.1.0, Some x.1.1))
+            (λ q s. (s.0, s.1, s.2, by_rule kind table AfterType (x.1.0, Some x.1.1) s.1 (inr (x.1, refl, s.3)), s.4)) ts b,
       )
 
   alone : (m : Mode) (v : RawTerm) (ts : List Seen) → Is kind R (table (Atom m)) v ts → Is kind R (table (Application m)) v ts
@@ -47,7 +50,7 @@ module _ where
   application : (m : Mode) (v : RawTerm) (ts : List Seen) → Is kind R (page (Application m)) v ts → Is kind R (table (Application m)) v ts
   application m v ts (inl a) = alone m v ts (of_rule kind table (Atom m) v ts a)
   application m v ts (inr (inl (x, e, (p, q, w, s, es)))) =
-      inr (inr ((x.0, x.1.0 ∷ x.1.1), e, (p, q, w, by_rule kind table (Atoms m) (x.1.0 ∷ x.1.1) q (one_more R (nt (Atom m) ∙∙ nt (Atoms m)) x.1 q s), es)))
+      inr (inr (x, e, (p, q, w, by_rule kind table (Atoms m) x.1 q (some_more R (nt (Atom m) ∙∙ nt (Atoms m)) x.1 q s), es)))
   application m v ts (inr (inr b)) = inl b
 
   alone_answer : (v : RawTerm) (ts : List Seen) → Is kind R (table AnswerAtom) v ts → Is kind R (table Answer) v ts
@@ -57,26 +60,24 @@ module _ where
   answer : (v : RawTerm) (ts : List Seen) → Is kind R (page Answer) v ts → Is kind R (table Answer) v ts
   answer v ts (inl a) = alone_answer v ts (of_rule kind table AnswerAtom v ts a)
   answer v ts (inr (x, e, (p, q, w, s, es))) =
-      inr ((x.0, x.1.0 ∷ x.1.1), e, (p, q, w, by_rule kind table AnswerAtoms (x.1.0 ∷ x.1.1) q (one_more R (nt AnswerAtom ∙∙ nt AnswerAtoms) x.1 q s), es))
+      inr (x, e, (p, q, w, by_rule kind table AnswerAtoms x.1 q (some_more R (nt AnswerAtom ∙∙ nt AnswerAtoms) x.1 q s), es))
 
-  between : (k : ℕ) → has (and ∷ arrow ∷ []) k ≡ true → (x : RawFormula × RawFormula) (v : RawFormula) → v ≡ connected x.0 k x.1
+  between : (k operator : ℕ) → ((s : Seen) → has (k ∷ []) s.kind ≡ true → Is kind R connective operator (s ∷ []))
+      → (x : RawFormula × RawFormula) (v : RawFormula) → v ≡ connected x.0 operator x.1
       → (q : List Seen) → Is kind R (nt Formula ∙∙ k ▸ nt Formula ◂ close_paren) x q → Is kind R (nt InnerFormula ◂ close_paren) v q
-  between k among x v e q (p1, q1, a, b, es) =
+  between k operator named x v e q (p1, q1, a, b, es) =
       let (t2, q2, h2, b2, e2) = opened R k (nt Formula ◂ close_paren) x.1 q1 b in
       let (p3, t3, h3, b3, e3) = closed R (nt Formula) close_paren x.1 q2 b2 in
-      let same : k ≡ t2.kind = kind_is k t2.kind h2 in
-      let told : has (and ∷ arrow ∷ []) t2.kind ≡ true = subst (λ n. has (and ∷ arrow ∷ []) n ≡ true) same among in
-      let value : v ≡ connected x.0 t2.kind x.1 = e ∙ ap (λ n. connected x.0 n x.1) same in
-      let inner = by_rule kind table InnerFormula v (p1 ++ t2 ∷ p3) (inr ((x.0, (t2.kind, x.1)), value, (p1, t2 ∷ p3, a, (t2 ∷ [], p3, (t2, refl, (told, refl)), b3, refl), refl))) in
+      let inner = by_rule kind table InnerFormula v (p1 ++ t2 ∷ p3) (inr ((x.0, (operator, x.1)), e, (p1, t2 ∷ p3, a, (t2 ∷ [], p3, named t2 h2, b3, refl), refl))) in
       let tokens : (p1 ++ t2 ∷ p3) ++ t3 ∷ [] ≡ q = append_assoc p1 (t2 ∷ p3) (t3 ∷ []) ∙ sym (es ∙ ap (λ z. p1 ++ z) (e2 ∙ ap (λ z. t2 ∷ z) e3)) in
       subst (λ z. Is kind R (nt InnerFormula ◂ close_paren) v z) tokens (close_with R (nt InnerFormula) close_paren v (p1 ++ t2 ∷ p3) t3 h3 inner)
 
   formula : (v : RawFormula) (ts : List Seen) → Is kind R (page Formula) v ts → Is kind R (table Formula) v ts
   formula v ts (inl a) = inl a
   formula v ts (inr (inl (x, e, b))) =
-      inr (inside R open_paren (nt Formula ∙∙ and ▸ nt Formula ◂ close_paren) (nt InnerFormula ◂ close_paren) x v (between and refl x v e) ts b)
+      inr (inside R open_paren (nt Formula ∙∙ and ▸ nt Formula ◂ close_paren) (nt InnerFormula ◂ close_paren) x v (between and and_operator (λ s h. inl (s, refl, (h, refl))) x v e) ts b)
   formula v ts (inr (inr (inl (x, e, b)))) =
-      inr (inside R open_paren (nt Formula ∙∙ arrow ▸ nt Formula ◂ close_paren) (nt InnerFormula ◂ close_paren) x v (between arrow refl x v e) ts b)
+      inr (inside R open_paren (nt Formula ∙∙ arrow ▸ nt Formula ◂ close_paren) (nt InnerFormula ◂ close_paren) x v (between arrow implies_operator (λ s h. inr (s, refl, (h, refl))) x v e) ts b)
   formula v ts (inr (inr (inr b))) =
       inr (inside R open_paren (nt MarkedFormula ◂ close_paren) (nt InnerFormula ◂ close_paren) v v
       (λ q c. (c.0, c.1, (c.2.0, c.2.1, by_rule kind table InnerFormula c.0.0 c.2.0 (inl c.2.2), c.2.3, c.2.4))) ts b)

@@ -11,6 +11,7 @@ use Rattle.tg_grammar.specs.declared.declarations.RawDecl.TheVariants as declara
 use Rattle.tg_grammar.specs.declared.declarations.RawPat.TheVariants as patterns
 use Rattle.tg_grammar.specs.declared.formulas.RawFormula.TheVariants as formulas
 use Rattle.tg_grammar.specs.Kinds.{open_paren, close_paren, open_brace, close_brace, open_bracket, close_bracket, comma, semicolon, dot, equal, plus, minus, times, and, or, not, arrow, double_arrow, double_colon, question, bang, theory_word, version_word, begin_word, end_word, datatype_word, program_word, spec_word, outcomes_word, certificate_word, if_word, then_word, else_word, let_word, in_word, case_word, of_word, div_word, suc_word, nat_word, bool_word, other_word, depth_word, bound_word, seed_word, tries_word, width_word, answer_word, raised_word, all_word, weak_rule, true_rule, schema_rule, exhaust_rule, deep_rule, type_variable}
+use Rattle.tg_grammar.specs.Operators.{suc_operator, not_operator, and_operator, or_operator, implies_operator, equal_operator, plus_operator, minus_operator, times_operator, div_operator}
 use Rattle.tg_grammar.specs.Seen.{Seen, number_kind}
 use Rattle.tg_grammar.specs.Parts.{in_theory, in_certificate, Theory, Judge, Declaration, Equation, WholeType, Term, Outcomes, Item, Certificate, Line, Formula}
 use Rattle.tg_grammar.specs.Samples.{token}
@@ -72,14 +73,14 @@ variable text = terms.Use text []
 -- a --> b --> c
 to_the_right : reads (Term in_theory)
     (name a ∷ token arrow ∷ name b ∷ token arrow ∷ name c ∷ [])
-    ≡ ok (terms.Op arrow (variable a ∷ terms.Op arrow (variable b ∷ variable c ∷ []) ∷ [])) []
+    ≡ ok (terms.Op implies_operator (variable a ∷ terms.Op implies_operator (variable b ∷ variable c ∷ []) ∷ [])) []
 unfolding read
 to_the_right = refl
 
 -- a - b + c
 to_the_left : reads (Term in_theory)
     (name a ∷ token minus ∷ name b ∷ token plus ∷ name c ∷ [])
-    ≡ ok (terms.Op plus ((terms.Op minus (variable a ∷ variable b ∷ [])) ∷ variable c ∷ [])) []
+    ≡ ok (terms.Op plus_operator ((terms.Op minus_operator (variable a ∷ variable b ∷ [])) ∷ variable c ∷ [])) []
 unfolding read
 to_the_left = refl
 
@@ -87,14 +88,14 @@ to_the_left = refl
 -- a + b div c * d
 products_first : reads (Term in_theory)
     (name a ∷ token plus ∷ name b ∷ token div_word ∷ name c ∷ token times ∷ name d ∷ [])
-    ≡ ok (terms.Op plus (variable a ∷ (terms.Op times ((terms.Op div_word (variable b ∷ variable c ∷ [])) ∷ variable d ∷ [])) ∷ [])) []
+    ≡ ok (terms.Op plus_operator (variable a ∷ (terms.Op times_operator ((terms.Op div_operator (variable b ∷ variable c ∷ [])) ∷ variable d ∷ [])) ∷ [])) []
 unfolding read
 products_first = refl
 
 -- a | b & ~ c = d + e --> f
 levels : reads (Term in_theory)
     (name a ∷ token or ∷ name b ∷ token and ∷ token not ∷ name c ∷ token equal ∷ name d ∷ token plus ∷ name e ∷ token arrow ∷ name f ∷ [])
-    ≡ ok (terms.Op arrow ((terms.Op or (variable a ∷ (terms.Op and (variable b ∷ (terms.Op not ((terms.Op equal (variable c ∷ terms.Op plus (variable d ∷ variable e ∷ []) ∷ [])) ∷ [])) ∷ [])) ∷ [])) ∷ variable f ∷ [])) []
+    ≡ ok (terms.Op implies_operator ((terms.Op or_operator (variable a ∷ (terms.Op and_operator (variable b ∷ (terms.Op not_operator ((terms.Op equal_operator (variable c ∷ terms.Op plus_operator (variable d ∷ variable e ∷ []) ∷ [])) ∷ [])) ∷ [])) ∷ [])) ∷ variable f ∷ [])) []
 unfolding read
 levels = refl
 
@@ -102,14 +103,14 @@ levels = refl
 -- a = b = c
 no_chain : reads (Term in_theory)
     (name a ∷ token equal ∷ name b ∷ token equal ∷ name c ∷ [])
-    ≡ ok (terms.Op equal (variable a ∷ variable b ∷ [])) (token equal ∷ name c ∷ [])
+    ≡ ok (terms.Op equal_operator (variable a ∷ variable b ∷ [])) (token equal ∷ name c ∷ [])
 unfolding read
 no_chain = refl
 
 -- f a 0 + Suc b
 uses : reads (Term in_theory)
     (name f ∷ name a ∷ number 0 ∷ token plus ∷ token suc_word ∷ name b ∷ [])
-    ≡ ok (terms.Op plus ((terms.Use f (variable a ∷ terms.Num 0 ∷ [])) ∷ terms.Op suc_word (variable b ∷ []) ∷ [])) []
+    ≡ ok (terms.Op plus_operator ((terms.Use f (variable a ∷ terms.Num 0 ∷ [])) ∷ terms.Op suc_operator (variable b ∷ []) ∷ [])) []
 unfolding read
 uses = refl
 
@@ -117,7 +118,7 @@ uses = refl
 -- if a then b else c --> d
 conditional : reads (Term in_theory)
     (token if_word ∷ name a ∷ token then_word ∷ name b ∷ token else_word ∷ name c ∷ token arrow ∷ name d ∷ [])
-    ≡ ok (terms.If (variable a ∷ variable b ∷ terms.Op arrow (variable c ∷ variable d ∷ []) ∷ [])) []
+    ≡ ok (terms.If (variable a ∷ variable b ∷ terms.Op implies_operator (variable c ∷ variable d ∷ []) ∷ [])) []
 unfolding read
 conditional = refl
 
@@ -239,7 +240,7 @@ a_datatype = refl
 -- theory t version 1 begin program p :: nat => nat ; spec x . p x = 0 ; end
 a_theory : reads Theory
     (token theory_word ∷ name t ∷ token version_word ∷ number 1 ∷ token begin_word ∷ token program_word ∷ name p ∷ token double_colon ∷ token nat_word ∷ token double_arrow ∷ token nat_word ∷ token semicolon ∷ token spec_word ∷ name x ∷ token dot ∷ name p ∷ name x ∷ token equal ∷ number 0 ∷ token semicolon ∷ token end_word ∷ [])
-    ≡ ok (record { name = codes "t"; version = 1; decls = declarations.Program p (types.Nat ∷ types.Nat ∷ []) ∷ declarations.Spec (x ∷ []) (terms.Op equal ((terms.Use p (variable x ∷ [])) ∷ terms.Num 0 ∷ [])) ∷ [] }) []
+    ≡ ok (record { name = codes "t"; version = 1; decls = declarations.Program p (types.Nat ∷ types.Nat ∷ []) ∷ declarations.Spec (x ∷ []) (terms.Op equal_operator ((terms.Use p (variable x ∷ [])) ∷ terms.Num 0 ∷ [])) ∷ [] }) []
 unfolding read
 a_theory = refl
 
@@ -310,6 +311,6 @@ version = refl
 -- a word with a meaning in one place is a name elsewhere: depth + ALL
 local_names : reads (Term in_theory)
     (local_name depth_word (codes "depth") ∷ token plus ∷ local_name all_word (codes "ALL") ∷ [])
-    ≡ ok (terms.Op plus (variable (codes "depth") ∷ variable (codes "ALL") ∷ [])) []
+    ≡ ok (terms.Op plus_operator (variable (codes "depth") ∷ variable (codes "ALL") ∷ [])) []
 unfolding read
 local_names = refl

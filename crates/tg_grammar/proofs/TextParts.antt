@@ -1,15 +1,15 @@
 -- What a text of a rule is put together from: a token before and behind, repetitions, types in brackets, connectives.
-use Rattle.std.proofs.lemmas.Bool.{cases_Bool, eqb-true}
-use Rattle.std.proofs.Common.{◌≡◌, ℕ, true, false, nat_eq, ◌⊎◌, List, [], ◌∷◌, ◌++◌, Option, Some, None, inl, inr, refl, sym, ap, subst, ◌∙◌, append_assoc}
-use Rattle.tg_rules.specs.Rule.{nt, has, ◌∙∙◌, ◌▸◌, ◌◂◌}
+use Rattle.std.proofs.Common.{◌≡◌, ℕ, true, ◌⊎◌, List, [], ◌∷◌, ◌++◌, Option, Some, None, inl, inr, refl, sym, ap, subst, ◌∙◌, append_assoc}
+use Rattle.tg_rules.specs.Rule.{has, ◌∙∙◌, ◌▸◌, ◌◂◌}
 use Rattle.tg_rules.specs.Texts.{Is}
 use Rattle.tg_grammar.specs.declared.types.RawTy.{RawTy}
-use Rattle.tg_grammar.specs.Kinds.{close_paren, comma, and, arrow}
+use Rattle.tg_grammar.specs.Kinds.{close_paren, comma}
 use Rattle.tg_grammar.specs.Seen.{Seen}
-use Rattle.tg_grammar.specs.Parts.{Part, Value, WholeType, MoreTypes}
+use Rattle.tg_grammar.specs.Parts.{Part, Value}
 use Rattle.tg_rules.specs.Repetition.{listed}
 use Rattle.tg_grammar.specs.Making.{applied, bracketed}
-use Rattle.tg_grammar.specs.Page.{Grammar, word, many}
+use Rattle.tg_grammar.specs.Notation.{Grammar, word, many, some}
+use Rattle.tg_grammar.specs.TableParts as table
 use Rattle.tg_grammar.specs.Reading.{kind}
 
 -- ---- a token before and behind
@@ -48,8 +48,8 @@ same_type t (Some name) = refl
 pub enclosed : (o c : Seen) (p inner q : List Seen) (r : List Seen) → p ≡ o ∷ r → r ≡ inner ++ c ∷ [] → o ∷ (inner ++ c ∷ q) ≡ p ++ q
 enclosed o c p inner q r e f = sym (ap (λ z. z ++ q) (e ∙ ap (λ z. o ∷ z) f) ∙ ap (λ z. o ∷ z) (append_assoc inner (c ∷ []) q))
 
-abbrev pub more_types : Grammar (RawTy × (List RawTy × List ℕ))
-more_types = comma ▸ nt WholeType ∙∙ nt MoreTypes ∙∙ close_paren ▸ word
+abbrev pub more_types : Grammar (List RawTy × List ℕ)
+more_types = comma ▸ table.more_types ∙∙ close_paren ▸ word
 
 -- ---- repetitions
 
@@ -67,16 +67,6 @@ module _ (R : (n : Part) → Value n → List Seen → Type 0) where
   pub one_more : {A : Type 0} (g : Grammar (A × List A)) (y : A × List A) (q : List Seen) → Is kind R g y q → Is kind R (many g) (y.0 ∷ y.1) q
   one_more g y q h = (Some y, refl, inr (y, refl, h))
 
--- ---- connectives
-
-pub kind_is : (k n : ℕ) → has (k ∷ []) n ≡ true → k ≡ n
-kind_is k n e = elim (cases_Bool (nat_eq k n)) [
-  | inl same ↦ eqb-true k n same
-  | inr other ↦ let same : false ≡ true = rw other at e in absurd cc
-]
-
-pub which : (n : ℕ) → has (and ∷ arrow ∷ []) n ≡ true → (has (and ∷ []) n ≡ true) ⊎ (has (arrow ∷ []) n ≡ true)
-which n e = elim (cases_Bool (nat_eq and n)) [
-  | inl same ↦ inl (rw same refl)
-  | inr other ↦ inr (rw other at e)
-]
+  -- one and then more is a repetition
+  pub some_more : {A : Type 0} (g : Grammar (A × List A)) (v : List A) (q : List Seen) → Is kind R (some g) v q → Is kind R (many g) v q
+  some_more g v q (y, e, h) = (Some y, e, inr (y, refl, h))

@@ -12,10 +12,11 @@ use Rattle.tg_grammar.specs.Kinds.{open_paren, close_paren, and, arrow}
 use Rattle.tg_grammar.specs.Seen.{Seen}
 use Rattle.tg_grammar.specs.Parts.{Mode, Part, Value, WholeType, TypeAtom, AfterType, Application, Atom, Atoms, Answer, AnswerAtom, AnswerAtoms, Formula, MarkedFormula, InnerFormula}
 use Rattle.tg_grammar.specs.Making.{applied, bracketed, connected}
-use Rattle.tg_grammar.specs.Page.{word, page}
+use Rattle.tg_grammar.specs.Notation.{word}
+use Rattle.tg_grammar.specs.Page.{page}
 use Rattle.tg_grammar.specs.Table.{table}
 use Rattle.tg_grammar.specs.Reading.{kind}
-use Rattle.tg_grammar.proofs.TextParts.{opened, open_with, closed, close_with, same_type, enclosed, more_types, repeats, kind_is, which}
+use Rattle.tg_grammar.proofs.TextParts.{opened, open_with, closed, close_with, same_type, enclosed, more_types, repeats}
 
 module _ where
   abbrev R : (n : Part) → Value n → List Seen → Type 0
@@ -33,7 +34,7 @@ module _ where
       let tokens : t1 ∷ (p1 ++ q1) ≡ t1 ∷ (p1 ++ t2 ∷ []) ++ q2 = ap (λ z. t1 ∷ (p1 ++ z)) e3 ∙ enclosed t1 t2 (t1 ∷ (p1 ++ t2 ∷ [])) p1 q2 (p1 ++ t2 ∷ []) refl refl in
       inl ((x.0, w), value, (t1 ∷ (p1 ++ t2 ∷ []), q2, atom, o, tokens))
   after_type v x e t1 p1 q1 h1 a (inr (y, ey, c)) =
-      let value : v ≡ bracketed x.0 (y.0 ∷ y.1.0) (Some y.1.1) = e ∙ ap (λ z. bracketed x.0 z.0 z.1) ey in
+      let value : v ≡ bracketed x.0 y.0 (Some y.1) = e ∙ ap (λ z. bracketed x.0 z.0 z.1) ey in
       inr ((x.0, y), value, open_with R open_paren (nt WholeType ∙∙ more_types) (x.0, y) t1 (p1 ++ q1) h1 (p1, q1, a, c, refl))
 
   whole_type : (v : RawTy) (ts : List Seen) → Is kind R (table WholeType) v ts → Is kind R (page WholeType) v ts
@@ -54,8 +55,7 @@ module _ where
         let tokens : p ≡ ts = sym (es ∙ ap (λ z. p ++ z) none.1 ∙ append-nil p) in
         inl (by_rule kind page (Atom m) v ts (inr (x.0, value, subst (λ z. Is kind R word x.0 z) tokens w)))
     | inr more ↦
-        let value : v ≡ terms.Use x.0 (more.0.0 ∷ more.0.1) = e ∙ ap (λ z. terms.Use x.0 z) more.1 in
-        inr (inl ((x.0, more.0), value, (p, q, w, more.2, es)))
+        inr (inl (x, e, (p, q, w, (more.0, more.1, more.2), es)))
   ]
 
   answer : (v : RawTerm) (ts : List Seen) → Is kind R (table Answer) v ts → Is kind R (page Answer) v ts
@@ -66,8 +66,7 @@ module _ where
         let tokens : p ≡ ts = sym (es ∙ ap (λ z. p ++ z) none.1 ∙ append-nil p) in
         inl (by_rule kind page AnswerAtom v ts (inr (x.0, value, subst (λ z. Is kind R word x.0 z) tokens w)))
     | inr more ↦
-        let value : v ≡ terms.Use x.0 (more.0.0 ∷ more.0.1) = e ∙ ap (λ z. terms.Use x.0 z) more.1 in
-        inr ((x.0, more.0), value, (p, q, w, more.2, es))
+        inr (x, e, (p, q, w, (more.0, more.1, more.2), es))
   ]
 
   -- ---- formulas
@@ -81,22 +80,23 @@ module _ where
   joined_at f g s t p q k hs ht a b =
       (p, s ∷ (q ++ t ∷ []), a, open_with R k (nt Formula ◂ close_paren) g s (q ++ t ∷ []) hs (close_with R (nt Formula) close_paren g q t ht b), append_assoc p (s ∷ q) (t ∷ []))
 
+  tokens : (s : Seen) (o p1 q1 q3 p : List Seen) (t : Seen) → o ≡ s ∷ [] → q1 ≡ o ++ q3 → p ≡ p1 ++ q1 → (p1 ++ s ∷ q3) ++ t ∷ [] ≡ p ++ t ∷ []
+  tokens s o p1 q1 q3 p t eo e4 e5 = ap (λ z. z ++ t ∷ []) (sym (e5 ∙ ap (λ z. p1 ++ z) (e4 ∙ ap (λ z. z ++ q3) eo)))
+
   inner : (v : RawFormula) (p : List Seen) (t1 t2 : Seen) → has (open_paren ∷ []) t1.kind ≡ true → has (close_paren ∷ []) t2.kind ≡ true
       → Is kind R (page InnerFormula) v p → Is kind R (page Formula) v (t1 ∷ (p ++ t2 ∷ []))
   inner v p t1 t2 h1 h2 (inl a) =
       inr (inr (inr (open_with R open_paren (nt MarkedFormula ◂ close_paren) v t1 (p ++ t2 ∷ []) h1 (close_with R (nt MarkedFormula) close_paren v p t2 h2 a))))
-  inner v p t1 t2 h1 h2 (inr (x, e, (p1, q1, a, (o, q3, (s, ek, (hs, eo)), b, e4), e5))) =
-      let tokens : (p1 ++ s ∷ q3) ++ t2 ∷ [] ≡ p ++ t2 ∷ [] = ap (λ z. z ++ t2 ∷ []) (sym (e5 ∙ ap (λ z. p1 ++ z) (e4 ∙ ap (λ z. z ++ q3) eo))) in
-      elim (which s.kind hs) [
-        | inl is_and ↦
-            let value : v ≡ formulas.And x.0 x.1.1 = e ∙ ap (λ n. connected x.0 n x.1.1) (ek ∙ sym (kind_is and s.kind is_and)) in
-            let all = subst (λ z. Joined (x.0, x.1.1) and z) tokens (joined_at x.0 x.1.1 s t2 p1 q3 and is_and h2 a b) in
-            inr (inl ((x.0, x.1.1), value, open_with R open_paren (nt Formula ∙∙ and ▸ nt Formula ◂ close_paren) (x.0, x.1.1) t1 (p ++ t2 ∷ []) h1 all))
-        | inr is_arrow ↦
-            let value : v ≡ formulas.Imp x.0 x.1.1 = e ∙ ap (λ n. connected x.0 n x.1.1) (ek ∙ sym (kind_is arrow s.kind is_arrow)) in
-            let all = subst (λ z. Joined (x.0, x.1.1) arrow z) tokens (joined_at x.0 x.1.1 s t2 p1 q3 arrow is_arrow h2 a b) in
-            inr (inr (inl ((x.0, x.1.1), value, open_with R open_paren (nt Formula ∙∙ arrow ▸ nt Formula ◂ close_paren) (x.0, x.1.1) t1 (p ++ t2 ∷ []) h1 all)))
-      ]
+  inner v p t1 t2 h1 h2 (inr (x, e, (p1, q1, a, (o, q3, c, b, e4), e5))) = elim c [
+    | inl (s, ek, (hs, eo)) ↦
+        let value : v ≡ formulas.And x.0 x.1.1 = e ∙ ap (λ n. connected x.0 n x.1.1) ek in
+        let all = subst (λ z. Joined (x.0, x.1.1) and z) (tokens s o p1 q1 q3 p t2 eo e4 e5) (joined_at x.0 x.1.1 s t2 p1 q3 and hs h2 a b) in
+        inr (inl ((x.0, x.1.1), value, open_with R open_paren (nt Formula ∙∙ and ▸ nt Formula ◂ close_paren) (x.0, x.1.1) t1 (p ++ t2 ∷ []) h1 all))
+    | inr (s, ek, (hs, eo)) ↦
+        let value : v ≡ formulas.Imp x.0 x.1.1 = e ∙ ap (λ n. connected x.0 n x.1.1) ek in
+        let all = subst (λ z. Joined (x.0, x.1.1) arrow z) (tokens s o p1 q1 q3 p t2 eo e4 e5) (joined_at x.0 x.1.1 s t2 p1 q3 arrow hs h2 a b) in
+        inr (inr (inl ((x.0, x.1.1), value, open_with R open_paren (nt Formula ∙∙ arrow ▸ nt Formula ◂ close_paren) (x.0, x.1.1) t1 (p ++ t2 ∷ []) h1 all)))
+  ]
 
   formula : (v : RawFormula) (ts : List Seen) → Is kind R (table Formula) v ts → Is kind R (page Formula) v ts
   formula v ts (inl a) = inl a

@@ -2,9 +2,21 @@
 -- whether it may be empty. All of it is held against the table of the rules, and the check refuses it where it is wrong.
 use Rattle.std.specs.Prelude.{ℕ, Bool, true, false, List, [], ◌∷◌, ◌++◌}
 use Rattle.tg_rules.specs.Foresight.{Foresight}
-use Rattle.tg_grammar.specs.Kinds.{open_paren, close_paren, open_brace, open_bracket, comma, equal, less, less_equal, plus, minus, times, and, or, not, arrow, double_arrow, question, bang, theory_word, datatype_word, primrec_word, definition_word, program_word, spec_word, outcomes_word, certificate_word, if_word, let_word, case_word, div_word, mod_word, suc_word, true_word, false_word, nat_word, bool_word, other_word, answer_word, raised_word, all_word, exists_word, thyp_word, tested_word, hyp_rule, weak_rule, cut_rule, grow_rule, and_i_rule, and_l_rule, and_r_rule, imp_i_rule, mp_rule, all_i_rule, all_e_rule, exists_i_rule, exists_e_rule, thyp_i_rule, thyp_e_rule, true_rule, false_rule, split_rule, refl_rule, sym_rule, trans_rule, replace_rule, schema_rule, exhaust_rule, deep_rule, compute_rule, type_variable, zero_number, one_number, other_number}
+use Rattle.tg_grammar.specs.Kinds.{open_paren, close_paren, open_brace, open_bracket, comma, equal, less, less_equal, plus, minus, times, and, or}
+use Rattle.tg_grammar.specs.Kinds.{not, arrow, double_arrow, question, bang, theory_word, datatype_word, primrec_word, definition_word, program_word}
+use Rattle.tg_grammar.specs.Kinds.{spec_word, outcomes_word, certificate_word, if_word, let_word, case_word, div_word, mod_word, suc_word, true_word}
+use Rattle.tg_grammar.specs.Kinds.{false_word, nat_word, bool_word, other_word, answer_word, raised_word, all_word, exists_word, thyp_word}
+use Rattle.tg_grammar.specs.Kinds.{tested_word, hyp_rule, weak_rule, cut_rule, grow_rule, and_i_rule, and_l_rule, and_r_rule, imp_i_rule, mp_rule}
+use Rattle.tg_grammar.specs.Kinds.{all_i_rule, all_e_rule, exists_i_rule, exists_e_rule, thyp_i_rule, thyp_e_rule, true_rule, false_rule, split_rule}
+use Rattle.tg_grammar.specs.Kinds.{refl_rule, sym_rule, trans_rule, replace_rule, schema_rule, exhaust_rule, deep_rule, compute_rule, type_variable}
+use Rattle.tg_grammar.specs.Kinds.{zero_number, one_number, two_number, small_number, other_number}
 use Rattle.tg_grammar.specs.Words.{local_kinds}
-use Rattle.tg_grammar.specs.Parts.{Mode, in_theory, in_certificate, Part, Theory, Judge, Check, Declarations, Declaration, Parameters, MoreParameters, Constructor, MoreConstructors, Equation, Equations, Pattern, Patterns, Words, SimpleType, TypeAtom, TypeAtoms, MoreTypeAtoms, WholeType, MoreTypes, AfterType, FunctionType, MoreResults, Term, Variable, Variables, Branch, BranchHead, MoreBranches, Implication, Disjunction, Conjunction, Negation, Comparison, Sum, MoreSummands, Product, MoreFactors, Application, Atom, Atoms, PlainAtom, Outcomes, Items, Item, Answer, AnswerAtom, AnswerAtoms, PlainAnswer, Certificate, Lines, Line, Step, StepInContext, StepFromLines, Context, Numbers, Formula, MarkedFormula, InnerFormula}
+use Rattle.tg_grammar.specs.Parts.{Mode, in_theory, in_certificate, Part, Theory, Judge, Check, Declarations, Declaration, Parameters, MoreParameters}
+use Rattle.tg_grammar.specs.Parts.{Constructor, MoreConstructors, Equation, Equations, Pattern, Patterns, Words, SimpleType, TypeAtom, TypeAtoms}
+use Rattle.tg_grammar.specs.Parts.{MoreTypeAtoms, WholeType, MoreTypes, AfterType, FunctionType, MoreResults, Term, Variable, Variables, Branch}
+use Rattle.tg_grammar.specs.Parts.{BranchHead, MoreBranches, Implication, Disjunction, Conjunction, Negation, Comparison, Sum, MoreSummands, Product}
+use Rattle.tg_grammar.specs.Parts.{MoreFactors, Application, Atom, Atoms, PlainAtom, Outcomes, Items, Item, Answer, AnswerAtom, AnswerAtoms}
+use Rattle.tg_grammar.specs.Parts.{PlainAnswer, Certificate, Lines, Line, Step, Context, Numbers, Formula, MarkedFormula, InnerFormula}
 
 -- ---- classes of tokens
 
@@ -12,7 +24,7 @@ abbrev pub words : List ℕ
 words = other_word ∷ local_kinds
 
 abbrev pub numbers : List ℕ
-numbers = zero_number ∷ one_number ∷ other_number ∷ []
+numbers = zero_number ∷ one_number ∷ two_number ∷ small_number ∷ other_number ∷ []
 
 abbrev pub declaration_words : List ℕ
 declaration_words = datatype_word ∷ primrec_word ∷ definition_word ∷ program_word ∷ spec_word ∷ []
@@ -47,13 +59,10 @@ after_comparison m = equal ∷ less ∷ less_equal ∷ plus ∷ minus ∷ after_
 abbrev pub marks : List ℕ
 marks = all_word ∷ exists_word ∷ thyp_word ∷ tested_word ∷ deep_rule ∷ []
 
--- the rules whose first argument is a context, and those whose first argument is a number
-abbrev pub context_rules : List ℕ
-context_rules = hyp_rule ∷ true_rule ∷ refl_rule ∷ compute_rule ∷ schema_rule ∷ deep_rule ∷ []
-
-abbrev pub line_rules : List ℕ
-line_rules = and_l_rule ∷ and_r_rule ∷ all_i_rule ∷ thyp_i_rule ∷ thyp_e_rule ∷ sym_rule ∷ cut_rule ∷ and_i_rule ∷ mp_rule ∷ exists_e_rule ∷ trans_rule ∷ weak_rule
-    ∷ imp_i_rule ∷ false_rule ∷ grow_rule ∷ all_e_rule ∷ exists_i_rule ∷ split_rule ∷ replace_rule ∷ exhaust_rule ∷ []
+abbrev pub rules : List ℕ
+rules = hyp_rule ∷ weak_rule ∷ cut_rule ∷ grow_rule ∷ and_i_rule ∷ and_l_rule ∷ and_r_rule ∷ imp_i_rule ∷ mp_rule ∷ all_i_rule ∷ all_e_rule ∷ exists_i_rule
+    ∷ exists_e_rule ∷ thyp_i_rule ∷ thyp_e_rule ∷ true_rule ∷ false_rule ∷ split_rule ∷ refl_rule ∷ sym_rule ∷ trans_rule ∷ replace_rule ∷ schema_rule
+    ∷ exhaust_rule ∷ deep_rule ∷ compute_rule ∷ []
 
 -- ---- the parts
 
@@ -110,9 +119,7 @@ first PlainAnswer = plain_atoms in_theory
 first Certificate = certificate_word ∷ []
 first Lines = numbers
 first Line = numbers
-first Step = context_rules ++ line_rules
-first StepInContext = context_rules
-first StepFromLines = line_rules
+first Step = rules
 first Context = open_brace ∷ []
 first Numbers = numbers
 first Formula = open_bracket ∷ open_paren ∷ []
@@ -181,8 +188,6 @@ more Answer = atoms in_theory
 more AnswerAtoms = atoms in_theory
 more Lines = numbers
 more Step = numbers ++ atoms in_certificate
-more StepInContext = atoms in_certificate
-more StepFromLines = numbers
 more Numbers = numbers
 more MarkedFormula = atoms in_certificate
 more InnerFormula = atoms in_certificate

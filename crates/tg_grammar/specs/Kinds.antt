@@ -72,7 +72,28 @@ question = 22
 abbrev pub bang : ℕ
 bang = 23
 
--- ---- A reserved word has 30 more than its code in the table of the reserved words.
+-- ---- Type variables and numbers. The grammar tells 0, 1, 2 and the numbers from 3 to 8 from the others.
+
+abbrev pub type_variable : ℕ
+type_variable = 24
+
+abbrev pub zero_number : ℕ
+zero_number = 25
+
+abbrev pub one_number : ℕ
+one_number = 26
+
+abbrev pub two_number : ℕ
+two_number = 27
+
+abbrev pub small_number : ℕ
+small_number = 28
+
+abbrev pub other_number : ℕ
+other_number = 29
+
+-- ---- A reserved word has 30 more than its code in the table of the reserved words. The kinds 57 to 68 are left for
+-- the reserved words of further versions and commands.
 
 abbrev pub theory_word : ℕ
 theory_word = 31
@@ -152,7 +173,8 @@ nat_word = 55
 abbrev pub bool_word : ℕ
 bool_word = 56
 
--- ---- Names: the ordinary ones, and words with a meaning in one place.
+-- ---- Names: the ordinary ones, and words with a meaning in one place. They are the last kinds, so that further words
+-- come behind them.
 
 abbrev pub other_word : ℕ
 other_word = 69
@@ -269,17 +291,3 @@ deep_rule = 105
 
 abbrev pub compute_rule : ℕ
 compute_rule = 106
-
--- ---- Type variables and numbers. The grammar tells the numbers 0 and 1 from the others.
-
-abbrev pub type_variable : ℕ
-type_variable = 107
-
-abbrev pub zero_number : ℕ
-zero_number = 108
-
-abbrev pub one_number : ℕ
-one_number = 109
-
-abbrev pub other_number : ℕ
-other_number = 110

@@ -1,5 +1,5 @@
 -- What is made of the values of a text's parts.
-use Rattle.std.specs.Prelude.{ℕ, ◌-◌, ◌==◌, if◌then◌else◌, Option, Some, None, List, [], ◌∷◌}
+use Rattle.std.specs.Prelude.{ℕ, ◌-◌, ◌==◌, if◌then◌else◌, Option, Some, None, List, [], ◌∷◌, ◌++◌}
 use Rattle.tg_grammar.specs.declared.types.RawTy.{RawTy}
 use Rattle.tg_grammar.specs.declared.types.RawTy.TheVariants as types
 use Rattle.tg_grammar.specs.declared.terms.RawTerm.{RawTerm}
@@ -7,7 +7,7 @@ use Rattle.tg_grammar.specs.declared.terms.RawTerm.TheVariants as terms
 use Rattle.tg_grammar.specs.declared.formulas.RawFormula.{RawFormula}
 use Rattle.tg_grammar.specs.declared.formulas.RawFormula.TheVariants as formulas
 use Rattle.tg_grammar.specs.declared.certificates.RawLine.{RawLine}
-use Rattle.tg_grammar.specs.Kinds.{arrow}
+use Rattle.tg_grammar.specs.Operators.{implies_operator}
 
 abbrev pub given : {A : Type 0} → Option (List A) → List A
 given None = []
@@ -42,16 +42,40 @@ chained a x = terms.Op x.0 (a ∷ x.1 ∷ [])
 
 -- ---- formulas and lines of a certificate
 
+-- two formulas with `&` or `-->` between them
 abbrev pub connected : RawFormula → ℕ → RawFormula → RawFormula
-connected f connective g = if arrow == connective then formulas.Imp f g else formulas.And f g
+connected f operator g = if implies_operator == operator then formulas.Imp f g else formulas.And f g
 
 -- the place of a rule among the 26 rules, from the kind of its name
 abbrev pub rule_place : ℕ → ℕ
 rule_place kind = kind - 80
 
--- a rule and its arguments: numbers, context, name, formula and terms
-abbrev pub rule_line : ℕ → List ℕ → List RawTy → Option (List ℕ) → Option RawFormula → List RawTerm → RawLine
-rule_line rule nums vars word formula terms = record { number = 0; rule = rule; nums = nums; vars = vars; word = word; formula = formula; terms = terms }
+abbrev pub no_arguments : RawLine
+no_arguments = record { number = 0; rule = 0; nums = []; vars = []; word = None; formula = None; terms = [] }
+
+-- the second where it is there
+abbrev pub later : {A : Type 0} → Option A → Option A → Option A
+later a None = a
+later a (Some b) = Some b
+
+-- the arguments of both lines, in their order
+abbrev pub with_arguments : RawLine → RawLine → RawLine
+with_arguments x y = record {
+  number = x.number;
+  rule = x.rule;
+  nums = x.nums ++ y.nums;
+  vars = x.vars ++ y.vars;
+  word = later x.word y.word;
+  formula = later x.formula y.formula;
+  terms = x.terms ++ y.terms;
+}
+
+-- a line of the rule whose name has this kind, without arguments and with those of a line
+abbrev pub line_of : ℕ → RawLine
+line_of kind = record no_arguments { rule = rule_place kind }
+
+abbrev pub of_rule : ℕ → RawLine → RawLine
+of_rule kind line = with_arguments (line_of kind) line
 
 abbrev pub numbered : ℕ → RawLine → RawLine
 numbered n line = record line { number = n }

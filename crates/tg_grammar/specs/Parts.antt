@@ -82,8 +82,6 @@ pub data Part : Type 0 where
   Lines : Part
   Line : Part
   Step : Part
-  StepInContext : Part
-  StepFromLines : Part
   Context : Part
   Numbers : Part
   Formula : Part
@@ -128,7 +126,7 @@ Value (Conjunction m) = RawTerm
 Value (Negation m) = RawTerm
 Value (Comparison m) = RawTerm
 Value (Sum m) = RawTerm
--- operators and their right operands
+-- the numbers of operators, and their right operands
 Value (MoreSummands m) = List (ℕ × RawTerm)
 Value (Product m) = RawTerm
 Value (MoreFactors m) = List (ℕ × RawTerm)
@@ -146,10 +144,8 @@ Value PlainAnswer = RawTerm
 Value Certificate = RawCert
 Value Lines = List RawLine
 Value Line = RawLine
--- lines whose number is still 0
+-- a line whose number is still 0
 Value Step = RawLine
-Value StepInContext = RawLine
-Value StepFromLines = RawLine
 Value Context = List RawTy
 Value Numbers = List ℕ
 Value Formula = RawFormula

@@ -2,7 +2,12 @@
 use Rattle.std.specs.Prelude.{◌≡◌, true}
 use Rattle.std.proofs.Common.{refl}
 use Rattle.tg_rules.specs.Reader.{passes}
-use Rattle.tg_grammar.specs.Parts.{in_theory, in_certificate, Part, Theory, Judge, Check, Declarations, Declaration, Parameters, MoreParameters, Constructor, MoreConstructors, Equation, Equations, Pattern, Patterns, Words, SimpleType, TypeAtom, TypeAtoms, MoreTypeAtoms, WholeType, MoreTypes, AfterType, FunctionType, MoreResults, Term, Variable, Variables, Branch, BranchHead, MoreBranches, Implication, Disjunction, Conjunction, Negation, Comparison, Sum, MoreSummands, Product, MoreFactors, Application, Atom, Atoms, PlainAtom, Outcomes, Items, Item, Answer, AnswerAtom, AnswerAtoms, PlainAnswer, Certificate, Lines, Line, Step, StepInContext, StepFromLines, Context, Numbers, Formula, MarkedFormula, InnerFormula}
+use Rattle.tg_grammar.specs.Parts.{in_theory, in_certificate, Part, Theory, Judge, Check, Declarations, Declaration, Parameters, MoreParameters}
+use Rattle.tg_grammar.specs.Parts.{Constructor, MoreConstructors, Equation, Equations, Pattern, Patterns, Words, SimpleType, TypeAtom, TypeAtoms}
+use Rattle.tg_grammar.specs.Parts.{MoreTypeAtoms, WholeType, MoreTypes, AfterType, FunctionType, MoreResults, Term, Variable, Variables, Branch}
+use Rattle.tg_grammar.specs.Parts.{BranchHead, MoreBranches, Implication, Disjunction, Conjunction, Negation, Comparison, Sum, MoreSummands, Product}
+use Rattle.tg_grammar.specs.Parts.{MoreFactors, Application, Atom, Atoms, PlainAtom, Outcomes, Items, Item, Answer, AnswerAtom, AnswerAtoms}
+use Rattle.tg_grammar.specs.Parts.{PlainAnswer, Certificate, Lines, Line, Step, Context, Numbers, Formula, MarkedFormula, InnerFormula}
 use Rattle.tg_grammar.specs.Table.{table}
 use Rattle.tg_grammar.specs.First.{foresight}
 use Rattle.tg_grammar.specs.Reading.{kind}
@@ -81,8 +86,6 @@ all_pass Certificate = refl
 all_pass Lines = refl
 all_pass Line = refl
 all_pass Step = refl
-all_pass StepInContext = refl
-all_pass StepFromLines = refl
 all_pass Context = refl
 all_pass Numbers = refl
 all_pass Formula = refl

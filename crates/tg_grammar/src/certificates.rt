@@ -30,3 +30,22 @@ pub struct RawLine {
     /// The terms.
     pub terms: Items<RawTerm>,
 }
+
+/// What a rule has for an argument.
+#[derive(Clone, Copy, Debug, PartialEq, Eq)]
+pub enum Argument {
+    /// A context.
+    Context,
+    /// A formula.
+    Formula,
+    /// A term, which is an atom.
+    Atom,
+    /// Any number of terms, which are atoms.
+    Atoms,
+    /// A number.
+    Number,
+    /// Any number of numbers.
+    Numbers,
+    /// A name.
+    Word,
+}

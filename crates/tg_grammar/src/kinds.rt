@@ -1,5 +1,5 @@
 //! The kinds of tokens: what the grammar tells apart. A kind is a number, so that a class of tokens is
-//! a list of numbers. The operators of a raw term are named by the kinds of their tokens.
+//! a list of numbers.
 
 // A symbol has its code in the table of the symbols.
 
@@ -72,7 +72,28 @@ pub const QUESTION: u32 = 22;
 /// `!`.
 pub const BANG: u32 = 23;
 
-// A reserved word has 30 more than its code in the table of the reserved words.
+// Type variables and numbers. The grammar tells 0, 1, 2 and the numbers from 3 to 8 from the others.
+
+/// A type variable.
+pub const TYPE_VARIABLE: u32 = 24;
+
+/// A number of the value 0.
+pub const ZERO_NUMBER: u32 = 25;
+
+/// A number of the value 1.
+pub const ONE_NUMBER: u32 = 26;
+
+/// A number of the value 2.
+pub const TWO_NUMBER: u32 = 27;
+
+/// A number of a value from 3 to 8.
+pub const SMALL_NUMBER: u32 = 28;
+
+/// Any other number.
+pub const OTHER_NUMBER: u32 = 29;
+
+// A reserved word has 30 more than its code in the table of the reserved words. The kinds 57 to 68 are
+// left for the reserved words of further versions and commands.
 
 /// `theory`.
 pub const THEORY_WORD: u32 = 31;
@@ -152,7 +173,8 @@ pub const NAT_WORD: u32 = 55;
 /// `bool`.
 pub const BOOL_WORD: u32 = 56;
 
-// Names: the ordinary ones, and words with a meaning in one place.
+// Names: the ordinary ones, and words with a meaning in one place. They are the last kinds, so that
+// further words come behind them.
 
 /// A word that is no other kind of word.
 pub const OTHER_WORD: u32 = 69;
@@ -271,16 +293,5 @@ pub const DEEP_RULE: u32 = 105;
 /// `compute`.
 pub const COMPUTE_RULE: u32 = 106;
 
-// Type variables and numbers. The grammar tells the numbers 0 and 1 from the others.
-
-/// A type variable.
-pub const TYPE_VARIABLE: u32 = 107;
-
-/// A number of the value 0.
-pub const ZERO_NUMBER: u32 = 108;
-
-/// A number of the value 1.
-pub const ONE_NUMBER: u32 = 109;
-
-/// Any other number.
-pub const OTHER_NUMBER: u32 = 110;
+/// The last kind of a name.
+pub const LAST_NAME: u32 = COMPUTE_RULE;

@@ -1,26 +1,23 @@
 //! What the grammar sees of a token.
-ghost use Rattle.std.specs.Prelude.{◌≡◌, All};
+ghost use Rattle.std.specs.Prelude.{◌≡◌, All, map};
 ghost use Rattle.tg_lex.specs.Grammar.{IsTokenOf};
-ghost use Rattle.tg_grammar.specs.Kinds.{other_word};
-ghost use Rattle.tg_grammar.specs.Seen.{seen_token, seen, word_kind, code_or, number_kind, is_declaration, declarations};
-ghost use Rattle.tg_tables.specs.Rows.{entries_of};
+ghost use Rattle.tg_lex.specs.Load.{text_of};
+ghost use Rattle.tg_grammar.specs.Seen.{seen_token, seen, value_of, number_kind, is_declaration, declarations};
 
 use crate::kinds::{
-    CERTIFICATE_WORD, DATATYPE_WORD, DEFINITION_WORD, ONE_NUMBER, OTHER_NUMBER, OTHER_WORD,
-    OUTCOMES_WORD, PRIMREC_WORD, PROGRAM_WORD, SPEC_WORD, TYPE_VARIABLE, ZERO_NUMBER,
+    ONE_NUMBER, OTHER_NUMBER, SMALL_NUMBER, TWO_NUMBER, TYPE_VARIABLE, ZERO_NUMBER,
 };
-use crate::words::WORD_ROWS;
+use crate::words::Vocabulary;
 use tg_lex::{Kind, Token, number};
-use tg_tables::Row;
 
-/// The kind of a token of the bytes. A word is looked for in the list of the words, so it takes the time
-/// of as many comparisons as the list is long.
-pub fn kind_of(bytes: &[u8], token: &Token) -> u32
+/// The kind of a token of the bytes, where these words have kinds of their own. A word is looked up by
+/// halving.
+pub fn kind_of(vocabulary: &Vocabulary, bytes: &[u8], token: &Token) -> u32
     requires { IsTokenOf bytes.now token.now }
-    ensures { let s = seen_token bytes.now token.now in result ≡ s.kind }
+    ensures { let s = seen_token vocabulary.now bytes.now token.now in result ≡ s.kind }
 {
     match token.kind {
-        Kind::Word => word_kind(text_of(bytes, token)),
+        Kind::Word => vocabulary.kind(text_of(bytes, token)),
         Kind::TyVar => TYPE_VARIABLE,
         Kind::Number => number_kind(number(bytes, token)),
         Kind::Sym(code) => code,
@@ -30,7 +27,7 @@ pub fn kind_of(bytes: &[u8], token: &Token) -> u32
 /// The value of a number token of the bytes, and 0 of another token.
 pub fn value_of(bytes: &[u8], token: &Token) -> u64
     requires { IsTokenOf bytes.now token.now }
-    ensures { let s = seen_token bytes.now token.now in result ≡ s.value }
+    ensures { result ≡ value_of token.now.kind (text_of bytes.now token.now) }
 {
     match token.kind {
         Kind::Number => number(bytes, token),
@@ -41,7 +38,7 @@ pub fn value_of(bytes: &[u8], token: &Token) -> u64
 /// The text of a token of the bytes.
 pub fn text_of<'a>(bytes: &'a [u8], token: &Token) -> &'a [u8]
     requires { IsTokenOf bytes.now token.now }
-    ensures { let s = seen_token bytes.now token.now in result.now ≡ s.text }
+    ensures { result.now ≡ text_of bytes.now token.now }
 {
     &bytes[token.start..token.end]
 }
@@ -54,23 +51,23 @@ pub fn place(bytes: &[u8], tokens: &[Token]) -> u64
 {
     let mut count = 0;
     for token in tokens {
-        if is_declaration(kind_of(bytes, token)) {
+        if is_declaration(text_of(bytes, token)) {
             count += 1;
         }
     }
     count
 }
 
-fn is_declaration(kind: u32) -> bool
-    ensures { result ≡ is_declaration kind }
+fn is_declaration(text: &[u8]) -> bool
+    ensures { result ≡ is_declaration text.now }
 {
-    kind == DATATYPE_WORD
-        || kind == PRIMREC_WORD
-        || kind == DEFINITION_WORD
-        || kind == PROGRAM_WORD
-        || kind == SPEC_WORD
-        || kind == OUTCOMES_WORD
-        || kind == CERTIFICATE_WORD
+    text == b"datatype".as_slice()
+        || text == b"primrec".as_slice()
+        || text == b"definition".as_slice()
+        || text == b"program".as_slice()
+        || text == b"spec".as_slice()
+        || text == b"outcomes".as_slice()
+        || text == b"certificate".as_slice()
 }
 
 fn number_kind(value: u64) -> u32
@@ -79,24 +76,8 @@ fn number_kind(value: u64) -> u32
     match value {
         0 => ZERO_NUMBER,
         1 => ONE_NUMBER,
+        2 => TWO_NUMBER,
+        3..=8 => SMALL_NUMBER,
         _ => OTHER_NUMBER,
     }
-}
-
-#[tactic(auto, unfolding(crate::specs::Seen::word_kind))]
-fn word_kind(text: &[u8]) -> u32
-    ensures { result ≡ word_kind text.now }
-{
-    code_of(&WORD_ROWS, text)
-}
-
-fn code_of(rows: &[Row], text: &[u8]) -> u32
-    ensures { result ≡ code_or other_word (entries_of rows.now) text.now }
-{
-    for row in rows {
-        if row.name.as_bytes() == text {
-            return row.code;
-        }
-    }
-    OTHER_WORD
 }

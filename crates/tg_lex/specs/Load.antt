@@ -2,6 +2,7 @@
 use Rattle.std.specs.Prelude.{ℕ, ◌+◌, ◌-◌, Bool, false, ◌||◌, ◌&&◌, ◌==◌, nat_lt, nat_le, if◌then◌else◌, List, [], ◌∷◌, ◌++◌, length, take, map, sum, slice_index, slice_range, codes}
 use Rattle.std.specs.Str.{bytes_eq}
 use Rattle.tg_lex.specs.declared.token.Token.{Token}
+use Rattle.tg_lex.specs.declared.load.TheConstants.{LOAD_LIMIT}
 use Rattle.tg_lex.specs.declared.load.Effect.{Effect}
 use Rattle.tg_lex.specs.declared.load.Effect.TheVariants.{Opens, Closes, Resets, Counts, Nothing}
 
@@ -52,6 +53,10 @@ load_of counters = sum counters + length counters - 1
 abbrev pub passes : ℕ → List ℕ → List (List ℕ) → Bool
 passes limit counters [] = false
 passes limit counters (text ∷ texts) = nat_lt limit (load_of (step (effect text) counters)) || passes limit (step (effect text) counters) texts
+
+-- the load that a text may have
+abbrev pub load_limit : ℕ
+load_limit = LOAD_LIMIT
 
 abbrev pub text_of : List ℕ → Token → List ℕ
 text_of bytes t = slice_range bytes t.start t.end

@@ -1,6 +1,6 @@
 ghost use Rattle.std.specs.Prelude.{◌≡◌, ◌≤◌, [], ◌∷◌, All, IfOk, OnOk};
 ghost use Rattle.tg_lex.specs.Grammar.{IsTokenOf};
-ghost use Rattle.tg_lex.specs.Load.{is_counted_word, symbol_effect, word_effect, effect, step, load_of, load_passes, text_of};
+ghost use Rattle.tg_lex.specs.Load.{is_counted_word, symbol_effect, word_effect, effect, step, load_of, load_limit, load_passes, text_of};
 
 use crate::token::{Kind, Token};
 use std::alloc::{AllocError, Global};
@@ -33,14 +33,14 @@ struct Counters {
 }
 
 impl Model for Counters {
-    ghost use Rattle.std.specs.Prelude.{◌≡◌, ◌≤◌, ◌++◌, ◌∷◌, [], List, ℕ};
-    ghost use Rattle.tg_lex.specs.Load.{load_of};
+    ghost use Rattle.std.specs.Prelude.{◌≡◌, ◌≤◌, ◌+◌, ◌++◌, ◌∷◌, [], List, ℕ};
+    ghost use Rattle.tg_lex.specs.Load.{load_of, load_limit};
 
     ghost Value = { List ℕ };
 
     ghost view = { λ c. c.before.items ++ c.last ∷ [] };
 
-    ghost invariant = { λ c. (c.load ≡ load_of (c.before.items ++ c.last ∷ [])) × (c.load ≤ 401) };
+    ghost invariant = { λ c. (c.load ≡ load_of (c.before.items ++ c.last ∷ [])) × (c.load ≤ load_limit + 1) };
 }
 
 impl Counters {
@@ -61,7 +61,7 @@ impl Counters {
     }
 
     fn apply(&mut self, effect: Effect) -> Result<(), AllocError>
-        requires { load_of self.old ≤ 400 }
+        requires { load_of self.old ≤ load_limit }
         ensures { OnOk result (self.new ≡ step effect self.old) }
     {
         match effect {
@@ -93,7 +93,7 @@ impl Counters {
 /// Whether the load of nesting of these tokens of the bytes is above `LOAD_LIMIT` at one of them.
 pub fn is_nested(alloc: Global, bytes: &[u8], tokens: &[Token]) -> Result<bool, AllocError>
     requires { All (IsTokenOf bytes.now) tokens.now }
-    ensures { IfOk result (λ nested. nested ≡ load_passes LOAD_LIMIT bytes.now tokens.now) }
+    ensures { IfOk result (λ nested. nested ≡ load_passes load_limit bytes.now tokens.now) }
 {
     let mut counters = Counters::new(alloc);
     for token in tokens {

@@ -1,8 +1,8 @@
 -- Each part of certificates, and each whole text of several parts, is read as its rule says.
 use Rattle.std.proofs.Common.{◌≡◌, ℕ, true, false, List, [], ◌∷◌, ◌++◌}
-use Rattle.tg_rules.specs.Reader.{ok, err, starts}
+use Rattle.tg_rules.specs.Reader.{ok, err, starts, token_at}
 use Rattle.tg_rules.specs.Repetition.{with_front}
-use Rattle.tg_rules.proofs.Repetition.{front_end, front_next, front_fault}
+use Rattle.tg_rules.proofs.Repetition.{front_end, front_next, front_fault, without_front, last_one, one_behind, some_fault}
 use Rattle.tg_grammar.specs.Seen.{Seen}
 use Rattle.tg_grammar.specs.Reading.{kind, reads, step}
 use Rattle.tg_grammar.proofs.Readings.{reads_by_rule}
@@ -10,8 +10,9 @@ use Rattle.tg_grammar.specs.declared.types.RawTy.{RawTy}
 use Rattle.tg_grammar.specs.declared.certificates.RawLine.{RawLine}
 use Rattle.tg_grammar.specs.First.{numbers}
 use Rattle.tg_grammar.specs.Kinds.{comma}
-use Rattle.tg_grammar.specs.Parts.{Judge, Check, Certificate, Lines, Line, Step, StepInContext, StepFromLines, Context, Numbers, TypeAtom, MoreTypeAtoms}
-use Rattle.tg_syntax.specs.Answers.{behind, value_at}
+use Rattle.tg_grammar.specs.Parts.{Judge, Check, Certificate, Lines, Line, Context, Numbers, TypeAtom, MoreTypeAtoms}
+use Rattle.tg_syntax.specs.Answers.{value_at}
+use Rattle.tg_syntax.specs.Pieces.{type_atoms_by_commas}
 
 pub judge_is : (ts : List Seen) → reads Judge ts ≡ step Judge ts
 judge_is = reads_by_rule Judge
@@ -24,15 +25,6 @@ certificate_is = reads_by_rule Certificate
 
 pub line_is : (ts : List Seen) → reads Line ts ≡ step Line ts
 line_is = reads_by_rule Line
-
-pub step_is : (ts : List Seen) → reads Step ts ≡ step Step ts
-step_is = reads_by_rule Step
-
-pub step_in_context_is : (ts : List Seen) → reads StepInContext ts ≡ step StepInContext ts
-step_in_context_is = reads_by_rule StepInContext
-
-pub step_from_lines_is : (ts : List Seen) → reads StepFromLines ts ≡ step StepFromLines ts
-step_from_lines_is = reads_by_rule StepFromLines
 
 pub context_is : (ts : List Seen) → reads Context ts ≡ step Context ts
 context_is = reads_by_rule Context
@@ -63,14 +55,18 @@ numbers_fault = front_fault (starts kind numbers) (value_at numbers) (reads Numb
 
 pub ruleset numbers_by = (numbers_end, numbers_next, numbers_fault)
 
-pub more_type_atoms_end : (front : List RawTy) (ts : List Seen) → starts kind (comma ∷ []) ts ≡ false → with_front front (reads MoreTypeAtoms ts) ≡ ok front ts
-more_type_atoms_end = front_end (starts kind (comma ∷ [])) (behind comma (reads TypeAtom)) (reads MoreTypeAtoms) (reads_by_rule MoreTypeAtoms)
+pub type_atoms_begin : (ts : List Seen) → with_front [] (type_atoms_by_commas ts) ≡ type_atoms_by_commas ts
+type_atoms_begin ts = without_front (type_atoms_by_commas ts)
 
-pub more_type_atoms_next : (front : List RawTy) (ts rest : List Seen) (x : RawTy) → starts kind (comma ∷ []) ts ≡ true → behind comma (reads TypeAtom) ts ≡ ok x rest
-    → with_front front (reads MoreTypeAtoms ts) ≡ with_front (front ++ x ∷ []) (reads MoreTypeAtoms rest)
-more_type_atoms_next = front_next (starts kind (comma ∷ [])) (behind comma (reads TypeAtom)) (reads MoreTypeAtoms) (reads_by_rule MoreTypeAtoms)
+pub type_atoms_end : (front : List RawTy) (ts rest : List Seen) (x : RawTy) → reads TypeAtom ts ≡ ok x rest → starts kind (comma ∷ []) rest ≡ false
+    → with_front front (type_atoms_by_commas ts) ≡ ok (front ++ x ∷ []) rest
+type_atoms_end = last_one (starts kind (comma ∷ [])) (reads TypeAtom) (reads MoreTypeAtoms) (token_at kind (comma ∷ [])) (reads_by_rule MoreTypeAtoms)
 
-pub more_type_atoms_fault : (front : List RawTy) (ts left : List Seen) → starts kind (comma ∷ []) ts ≡ true → behind comma (reads TypeAtom) ts ≡ err left → with_front front (reads MoreTypeAtoms ts) ≡ err left
-more_type_atoms_fault = front_fault (starts kind (comma ∷ [])) (behind comma (reads TypeAtom)) (reads MoreTypeAtoms) (reads_by_rule MoreTypeAtoms)
+pub type_atoms_next : (front : List RawTy) (ts rest left : List Seen) (x : RawTy) (s : Seen) → reads TypeAtom ts ≡ ok x rest → starts kind (comma ∷ []) rest ≡ true
+    → token_at kind (comma ∷ []) rest ≡ ok s left → with_front front (type_atoms_by_commas ts) ≡ with_front (front ++ x ∷ []) (type_atoms_by_commas left)
+type_atoms_next = one_behind (starts kind (comma ∷ [])) (reads TypeAtom) (reads MoreTypeAtoms) (token_at kind (comma ∷ [])) (reads_by_rule MoreTypeAtoms)
 
-pub ruleset more_type_atoms = (more_type_atoms_end, more_type_atoms_next, more_type_atoms_fault)
+pub type_atoms_fault : (front : List RawTy) (ts left : List Seen) → reads TypeAtom ts ≡ err left → with_front front (type_atoms_by_commas ts) ≡ err left
+type_atoms_fault = some_fault (starts kind (comma ∷ [])) (reads TypeAtom) (reads MoreTypeAtoms)
+
+pub ruleset type_atoms_by = (type_atoms_begin, type_atoms_end, type_atoms_next, type_atoms_fault)

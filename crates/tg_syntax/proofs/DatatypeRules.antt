@@ -1,15 +1,16 @@
 -- Each part of datatypes is read as its rule says.
 use Rattle.std.proofs.Common.{◌≡◌, ℕ, true, false, List, [], ◌∷◌, ◌++◌}
-use Rattle.tg_rules.specs.Reader.{ok, err, starts}
+use Rattle.tg_rules.specs.Reader.{ok, err, starts, token_at}
 use Rattle.tg_rules.specs.Repetition.{with_front}
-use Rattle.tg_rules.proofs.Repetition.{front_end, front_next, front_fault}
+use Rattle.tg_rules.proofs.Repetition.{without_front, last_one, one_behind, some_fault}
 use Rattle.tg_grammar.specs.Seen.{Seen}
 use Rattle.tg_grammar.specs.Reading.{kind, reads, step}
 use Rattle.tg_grammar.proofs.Readings.{reads_by_rule}
 use Rattle.tg_grammar.specs.declared.declarations.RawConDef.{RawConDef}
 use Rattle.tg_grammar.specs.Kinds.{comma, or, type_variable}
 use Rattle.tg_grammar.specs.Parts.{Parameters, MoreParameters, Constructor, MoreConstructors}
-use Rattle.tg_syntax.specs.Answers.{behind, text_at}
+use Rattle.tg_grammar.specs.Page.{parameters, constructors_of}
+use Rattle.tg_syntax.specs.Answers.{by_rule, text_at}
 
 pub parameters_is : (ts : List Seen) → reads Parameters ts ≡ step Parameters ts
 parameters_is = reads_by_rule Parameters
@@ -19,26 +20,34 @@ constructor_is = reads_by_rule Constructor
 
 -- ---- repetitions
 
-pub more_parameters_end : (front : List (List ℕ)) (ts : List Seen) → starts kind (comma ∷ []) ts ≡ false → with_front front (reads MoreParameters ts) ≡ ok front ts
-more_parameters_end = front_end (starts kind (comma ∷ [])) (behind comma (text_at (type_variable ∷ []))) (reads MoreParameters) (reads_by_rule MoreParameters)
+pub type_variables_begin : (ts : List Seen) → with_front [] (by_rule parameters ts) ≡ by_rule parameters ts
+type_variables_begin ts = without_front (by_rule parameters ts)
 
-pub more_parameters_next : (front : List (List ℕ)) (ts rest : List Seen) (x : List ℕ) → starts kind (comma ∷ []) ts ≡ true → behind comma (text_at (type_variable ∷ [])) ts ≡ ok x rest
-    → with_front front (reads MoreParameters ts) ≡ with_front (front ++ x ∷ []) (reads MoreParameters rest)
-more_parameters_next = front_next (starts kind (comma ∷ [])) (behind comma (text_at (type_variable ∷ []))) (reads MoreParameters) (reads_by_rule MoreParameters)
+pub type_variables_end : (front : List (List ℕ)) (ts rest : List Seen) (x : List ℕ) → text_at (type_variable ∷ []) ts ≡ ok x rest → starts kind (comma ∷ []) rest ≡ false
+    → with_front front (by_rule parameters ts) ≡ ok (front ++ x ∷ []) rest
+type_variables_end = last_one (starts kind (comma ∷ [])) (text_at (type_variable ∷ [])) (reads MoreParameters) (token_at kind (comma ∷ [])) (reads_by_rule MoreParameters)
 
-pub more_parameters_fault : (front : List (List ℕ)) (ts left : List Seen) → starts kind (comma ∷ []) ts ≡ true → behind comma (text_at (type_variable ∷ [])) ts ≡ err left → with_front front (reads MoreParameters ts) ≡ err left
-more_parameters_fault = front_fault (starts kind (comma ∷ [])) (behind comma (text_at (type_variable ∷ []))) (reads MoreParameters) (reads_by_rule MoreParameters)
+pub type_variables_next : (front : List (List ℕ)) (ts rest left : List Seen) (x : List ℕ) (s : Seen) → text_at (type_variable ∷ []) ts ≡ ok x rest → starts kind (comma ∷ []) rest ≡ true
+    → token_at kind (comma ∷ []) rest ≡ ok s left → with_front front (by_rule parameters ts) ≡ with_front (front ++ x ∷ []) (by_rule parameters left)
+type_variables_next = one_behind (starts kind (comma ∷ [])) (text_at (type_variable ∷ [])) (reads MoreParameters) (token_at kind (comma ∷ [])) (reads_by_rule MoreParameters)
 
-pub ruleset more_parameters = (more_parameters_end, more_parameters_next, more_parameters_fault)
+pub type_variables_fault : (front : List (List ℕ)) (ts left : List Seen) → text_at (type_variable ∷ []) ts ≡ err left → with_front front (by_rule parameters ts) ≡ err left
+type_variables_fault = some_fault (starts kind (comma ∷ [])) (text_at (type_variable ∷ [])) (reads MoreParameters)
 
-pub more_constructors_end : (front : List RawConDef) (ts : List Seen) → starts kind (or ∷ []) ts ≡ false → with_front front (reads MoreConstructors ts) ≡ ok front ts
-more_constructors_end = front_end (starts kind (or ∷ [])) (behind or (reads Constructor)) (reads MoreConstructors) (reads_by_rule MoreConstructors)
+pub ruleset type_variables_by = (type_variables_begin, type_variables_end, type_variables_next, type_variables_fault)
 
-pub more_constructors_next : (front : List RawConDef) (ts rest : List Seen) (x : RawConDef) → starts kind (or ∷ []) ts ≡ true → behind or (reads Constructor) ts ≡ ok x rest
-    → with_front front (reads MoreConstructors ts) ≡ with_front (front ++ x ∷ []) (reads MoreConstructors rest)
-more_constructors_next = front_next (starts kind (or ∷ [])) (behind or (reads Constructor)) (reads MoreConstructors) (reads_by_rule MoreConstructors)
+pub constructors_begin : (ts : List Seen) → with_front [] (by_rule constructors_of ts) ≡ by_rule constructors_of ts
+constructors_begin ts = without_front (by_rule constructors_of ts)
 
-pub more_constructors_fault : (front : List RawConDef) (ts left : List Seen) → starts kind (or ∷ []) ts ≡ true → behind or (reads Constructor) ts ≡ err left → with_front front (reads MoreConstructors ts) ≡ err left
-more_constructors_fault = front_fault (starts kind (or ∷ [])) (behind or (reads Constructor)) (reads MoreConstructors) (reads_by_rule MoreConstructors)
+pub constructors_end : (front : List RawConDef) (ts rest : List Seen) (x : RawConDef) → reads Constructor ts ≡ ok x rest → starts kind (or ∷ []) rest ≡ false
+    → with_front front (by_rule constructors_of ts) ≡ ok (front ++ x ∷ []) rest
+constructors_end = last_one (starts kind (or ∷ [])) (reads Constructor) (reads MoreConstructors) (token_at kind (or ∷ [])) (reads_by_rule MoreConstructors)
 
-pub ruleset more_constructors = (more_constructors_end, more_constructors_next, more_constructors_fault)
+pub constructors_next : (front : List RawConDef) (ts rest left : List Seen) (x : RawConDef) (s : Seen) → reads Constructor ts ≡ ok x rest → starts kind (or ∷ []) rest ≡ true
+    → token_at kind (or ∷ []) rest ≡ ok s left → with_front front (by_rule constructors_of ts) ≡ with_front (front ++ x ∷ []) (by_rule constructors_of left)
+constructors_next = one_behind (starts kind (or ∷ [])) (reads Constructor) (reads MoreConstructors) (token_at kind (or ∷ [])) (reads_by_rule MoreConstructors)
+
+pub constructors_fault : (front : List RawConDef) (ts left : List Seen) → reads Constructor ts ≡ err left → with_front front (by_rule constructors_of ts) ≡ err left
+constructors_fault = some_fault (starts kind (or ∷ [])) (reads Constructor) (reads MoreConstructors)
+
+pub ruleset constructors_by = (constructors_begin, constructors_end, constructors_next, constructors_fault)

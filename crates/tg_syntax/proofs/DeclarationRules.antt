@@ -2,7 +2,9 @@
 use Rattle.std.proofs.Common.{◌≡◌, true, false, List, [], ◌∷◌, ◌++◌}
 use Rattle.tg_rules.specs.Reader.{ok, err, starts}
 use Rattle.tg_rules.specs.Repetition.{with_front}
-use Rattle.tg_rules.proofs.Repetition.{front_end, front_next, front_fault}
+use Rattle.tg_rules.proofs.Repetition.{front_end, front_next, front_fault, without_front, some_fault, some_end, some_next}
+use Rattle.tg_grammar.specs.Page.{equations}
+use Rattle.tg_syntax.specs.Answers.{by_rule}
 use Rattle.tg_grammar.specs.Seen.{Seen}
 use Rattle.tg_grammar.specs.Reading.{kind, reads, step}
 use Rattle.tg_grammar.proofs.Readings.{reads_by_rule}
@@ -34,14 +36,18 @@ declarations_fault = front_fault (starts kind declaration_words) (reads Declarat
 
 pub ruleset declarations = (declarations_end, declarations_next, declarations_fault)
 
-pub equations_end : (front : List RawEq) (ts : List Seen) → starts kind words ts ≡ false → with_front front (reads Equations ts) ≡ ok front ts
-equations_end = front_end (starts kind words) (reads Equation) (reads Equations) (reads_by_rule Equations)
+pub equations_begin : (ts : List Seen) → with_front [] (by_rule equations ts) ≡ by_rule equations ts
+equations_begin ts = without_front (by_rule equations ts)
 
-pub equations_next : (front : List RawEq) (ts rest : List Seen) (x : RawEq) → starts kind words ts ≡ true → reads Equation ts ≡ ok x rest
-    → with_front front (reads Equations ts) ≡ with_front (front ++ x ∷ []) (reads Equations rest)
-equations_next = front_next (starts kind words) (reads Equation) (reads Equations) (reads_by_rule Equations)
+pub equations_end : (front : List RawEq) (ts rest : List Seen) (x : RawEq) → reads Equation ts ≡ ok x rest → starts kind words rest ≡ false
+    → with_front front (by_rule equations ts) ≡ ok (front ++ x ∷ []) rest
+equations_end = some_end (starts kind words) (reads Equation) (reads Equations) (reads_by_rule Equations)
 
-pub equations_fault : (front : List RawEq) (ts left : List Seen) → starts kind words ts ≡ true → reads Equation ts ≡ err left → with_front front (reads Equations ts) ≡ err left
-equations_fault = front_fault (starts kind words) (reads Equation) (reads Equations) (reads_by_rule Equations)
+pub equations_next : (front : List RawEq) (ts rest : List Seen) (x : RawEq) → reads Equation ts ≡ ok x rest → starts kind words rest ≡ true
+    → with_front front (by_rule equations ts) ≡ with_front (front ++ x ∷ []) (by_rule equations rest)
+equations_next = some_next (starts kind words) (reads Equation) (reads Equations) (reads_by_rule Equations)
 
-pub ruleset equations = (equations_end, equations_next, equations_fault)
+pub equations_fault : (front : List RawEq) (ts left : List Seen) → reads Equation ts ≡ err left → with_front front (by_rule equations ts) ≡ err left
+equations_fault = some_fault (starts kind words) (reads Equation) (reads Equations)
+
+pub ruleset equations_by = (equations_begin, equations_end, equations_next, equations_fault)

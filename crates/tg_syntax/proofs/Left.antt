@@ -1,10 +1,10 @@
 -- The tokens that are left, and the next one of them.
-use Rattle.std.proofs.Common.{◌≡◌, ℕ, zero, suc, ◌<◌, ◌≤◌, ◌+◌, true, false, List, [], ◌∷◌, drop, length, map, Some, None, Result, Ok, Err, IfOk, IfErr, OnOk, refl, sym, ◌∙◌, ap, get_or, arith}
+use Rattle.std.proofs.Common.{◌≡◌, ℕ, zero, suc, ◌<◌, ◌≤◌, ◌+◌, true, false, List, [], ◌∷◌, drop, length, Some, None, Result, Ok, Err, IfOk, IfErr, OnOk, refl, sym, ◌∙◌, ap, get_or, arith}
 use Rattle.std.proofs.lemmas.List.{drop_more, drop-drop, get_or-map, length-map}
 use Rattle.tg_lex.specs.declared.token.Token.{Token}
 use Rattle.tg_rules.specs.Rule.{has}
 use Rattle.tg_rules.specs.Reader.{ok, starts}
-use Rattle.tg_grammar.specs.Seen.{Seen, seen, seen_token}
+use Rattle.tg_grammar.specs.Seen.{Seen, Vocabulary, seen_with, seen_token}
 use Rattle.tg_grammar.specs.Reading.{kind}
 use Rattle.tg_lex.specs.Load.{text_of}
 use Rattle.tg_syntax.specs.declared.reader.Stop.{Stop}
@@ -16,13 +16,6 @@ use Rattle.tg_syntax.specs.Answers.{Gives, text_at, next_kind, next_text, next_v
 next_of : (all : List Seen) (at : ℕ) (d : Seen) → at < length all → next_kind (drop at all) ≡ Some (get_or all at d).kind
 next_of all at d low = ap next_kind (drop_more all at d low)
 
-pub kind_left : (all left : List Seen) (kinds : List ℕ) (at k : ℕ) → kinds ≡ map kind all → drop at all ≡ left → at < length all → k ≡ get_or kinds at k
-    → Some k ≡ next_kind left
-kind_left all left kinds at k e view within here =
-    let d : Seen = record { kind = k; value = 0; text = [] } in
-    let same : k ≡ (get_or all at d).kind = here ∙ ap (λ ks. get_or ks at k) e ∙ get_or-map kind all at d k within in
-    ap Some same ∙ sym (next_of all at d within) ∙ ap next_kind view
-
 pub none_left : (all left : List Seen) (at : ℕ) → drop at all ≡ left → length all ≤ at → left ≡ []
 none_left all left at view high = sym view ∙ drop_all all at high
   where
@@ -33,23 +26,32 @@ none_left all left at view high = sym view ∙ drop_all all at high
     drop_all (t ∷ all) (suc at) high = drop_all all at (omega (arith, high))
 
 -- the next token of the bytes
-token_left : (bytes : List ℕ) (tokens : List Token) (left : List Seen) (at : ℕ) (d : Token) → drop at (seen bytes tokens) ≡ left → at < length tokens
-    → left ≡ seen_token bytes (get_or tokens at d) ∷ drop (at + 1) (seen bytes tokens)
-token_left bytes tokens left at d view low =
-    let within : at < length (seen bytes tokens) = omega (arith, low, length-map tokens (seen_token bytes)) in
-    sym view ∙ drop_more (seen bytes tokens) at (seen_token bytes d) within
-    ∙ ap (λ x. x ∷ drop (at + 1) (seen bytes tokens)) (get_or-map (seen_token bytes) tokens at d (seen_token bytes d) low)
+token_left : (words : Vocabulary) (bytes : List ℕ) (tokens : List Token) (left : List Seen) (at : ℕ) (d : Token) → drop at (seen_with words bytes tokens) ≡ left → at < length tokens
+    → left ≡ seen_token words bytes (get_or tokens at d) ∷ drop (at + 1) (seen_with words bytes tokens)
+token_left words bytes tokens left at d view low =
+    let within : at < length (seen_with words bytes tokens) = omega (arith, low, length-map tokens (seen_token words bytes)) in
+    sym view ∙ drop_more (seen_with words bytes tokens) at (seen_token words bytes d) within
+    ∙ ap (λ x. x ∷ drop (at + 1) (seen_with words bytes tokens)) (get_or-map (seen_token words bytes) tokens at d (seen_token words bytes d) low)
 
-pub text_left : (bytes : List ℕ) (tokens : List Token) (left : List Seen) (at : ℕ) (d : Token) → drop at (seen bytes tokens) ≡ left → at < length tokens
+-- the kind of the token at a place
+pub kind_at : (words : Vocabulary) (bytes : List ℕ) (tokens : List Token) (at : ℕ) (d : Token) → at < length tokens
+    → Some (seen_token words bytes (get_or tokens at d)).kind ≡ next_kind (drop at (seen_with words bytes tokens))
+kind_at words bytes tokens at d low = sym (ap next_kind (token_left words bytes tokens (drop at (seen_with words bytes tokens)) at d refl low))
+
+pub no_kind : (words : Vocabulary) (bytes : List ℕ) (tokens : List Token) (at : ℕ) → length tokens ≤ at → None ≡ next_kind (drop at (seen_with words bytes tokens))
+no_kind words bytes tokens at high =
+    sym (ap next_kind (none_left (seen_with words bytes tokens) (drop at (seen_with words bytes tokens)) at refl (omega (arith, high, length-map tokens (seen_token words bytes)))))
+
+pub text_left : (words : Vocabulary) (bytes : List ℕ) (tokens : List Token) (left : List Seen) (at : ℕ) (d : Token) → drop at (seen_with words bytes tokens) ≡ left → at < length tokens
     → text_of bytes (get_or tokens at d) ≡ next_text left
-text_left bytes tokens left at d view low = sym (ap next_text (token_left bytes tokens left at d view low))
+text_left words bytes tokens left at d view low = sym (ap next_text (token_left words bytes tokens left at d view low))
 
-pub value_left : (bytes : List ℕ) (tokens : List Token) (left : List Seen) (at : ℕ) (d : Token) → drop at (seen bytes tokens) ≡ left → at < length tokens
-    → (seen_token bytes (get_or tokens at d)).value ≡ next_value left
-value_left bytes tokens left at d view low = sym (ap next_value (token_left bytes tokens left at d view low))
+pub value_left : (words : Vocabulary) (bytes : List ℕ) (tokens : List Token) (left : List Seen) (at : ℕ) (d : Token) → drop at (seen_with words bytes tokens) ≡ left → at < length tokens
+    → (seen_token words bytes (get_or tokens at d)).value ≡ next_value left
+value_left words bytes tokens left at d view low = sym (ap next_value (token_left words bytes tokens left at d view low))
 
-pub advanced : (bytes : List ℕ) (tokens : List Token) (left : List Seen) (at : ℕ) → drop at (seen bytes tokens) ≡ left → drop (at + 1) (seen bytes tokens) ≡ drop 1 left
-advanced bytes tokens left at view = sym (drop-drop 1 at (seen bytes tokens)) ∙ ap (drop 1) view
+pub advanced : (words : Vocabulary) (bytes : List ℕ) (tokens : List Token) (left : List Seen) (at : ℕ) → drop at (seen_with words bytes tokens) ≡ left → drop (at + 1) (seen_with words bytes tokens) ≡ drop 1 left
+advanced words bytes tokens left at view = sym (drop-drop 1 at (seen_with words bytes tokens)) ∙ ap (drop 1) view
 
 -- ---- what is taken
 

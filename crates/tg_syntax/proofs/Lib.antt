@@ -5,9 +5,11 @@ pub mod FormulaRules
 pub mod Left
 pub mod Moving
 pub mod OutcomeRules
-pub mod PatternRules
 pub mod Parsed
+pub mod PatternRules
 pub mod Repetitions
+pub mod RuleNames
 pub mod Rules
+pub mod StepRules
 pub mod TermRepetitions
 pub mod TermRules

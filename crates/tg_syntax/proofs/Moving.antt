@@ -5,7 +5,7 @@ use Rattle.tg_grammar.specs.First.{numbers}
 use Rattle.tg_grammar.specs.Reading.{kind}
 use Rattle.tg_grammar.specs.Seen.{Seen}
 use Rattle.tg_syntax.specs.Answers.{value_at}
-use Rattle.tg_syntax.specs.Pieces.{setting}
+use Rattle.tg_syntax.specs.Outcomes.{setting}
 
 module _ {T A B C : Type 0} where
   second_moved : (b : B) (a : A) (r : Read T C) → mapped {B = A × C} (λ x. x.1) (mapped {B = B × (A × C)} (λ y. (b, y)) (mapped {B = A × C} (λ c. (a, c)) r)) ≡ mapped {B = A × C} (λ c. (a, c)) r

@@ -9,7 +9,7 @@ use Rattle.tg_grammar.specs.declared.terms.RawTerm.{RawTerm}
 use Rattle.tg_grammar.specs.Seen.{Seen}
 use Rattle.tg_grammar.specs.Kinds.{answer_word, raised_word, outcomes_word, depth_word, bound_word, seed_word, tries_word, width_word, begin_word, end_word}
 use Rattle.tg_syntax.specs.Answers.{behind}
-use Rattle.tg_syntax.specs.Pieces.{setting}
+use Rattle.tg_syntax.specs.Outcomes.{setting}
 use Rattle.tg_syntax.proofs.Moving.{next_same, setting_first}
 use Rattle.tg_grammar.specs.First.{atoms}
 use Rattle.tg_grammar.specs.Parts.{in_theory, Outcomes, Items, Item, Answer, AnswerAtom, AnswerAtoms, PlainAnswer}
@@ -83,4 +83,4 @@ pub answer_atoms_fault : (front : List RawTerm) (ts left : List Seen) → starts
     → with_front front (reads AnswerAtoms ts) ≡ err left
 answer_atoms_fault = front_fault (starts kind (atoms in_theory)) (reads AnswerAtom) (reads AnswerAtoms) (reads_by_rule AnswerAtoms)
 
-pub ruleset answer_atoms = (answer_atoms_end, answer_atoms_next, answer_atoms_fault)
+pub ruleset answer_atoms_by = (answer_atoms_end, answer_atoms_next, answer_atoms_fault)

@@ -3,11 +3,12 @@ use Rattle.std.proofs.Common.{◌≡◌, ℕ, ◌-◌, true, false, List, [], �
 use Rattle.std.proofs.lemmas.List.{length-map, length-append}
 use Rattle.std.proofs.Math.Seq.{take-append_seam}
 use Rattle.tg_lex.specs.declared.token.Token.{Token}
-use Rattle.tg_lex.specs.Load.{load_passes}
+use Rattle.tg_lex.specs.Load.{load_limit, load_passes}
 use Rattle.tg_rules.specs.Fault.{IsFault}
 use Rattle.tg_rules.specs.Reader.{ok, err}
 use Rattle.tg_rules.proofs.Whole as whole
 use Rattle.tg_grammar.specs.Seen.{Seen, seen, seen_token, declarations}
+use Rattle.tg_grammar.specs.Words.{version_one}
 use Rattle.tg_grammar.specs.Parts.{Part, Value}
 use Rattle.tg_grammar.specs.Table.{table}
 use Rattle.tg_grammar.specs.First.{foresight}
@@ -21,7 +22,7 @@ use Rattle.tg_syntax.specs.declared.parsing.FormErr.{FormErr}
 use Rattle.tg_syntax.specs.declared.parsing.FormErr.TheVariants.{Nested, Form}
 use Rattle.tg_syntax.specs.declared.parsing.FormErr.TheVariants as errors
 use Rattle.tg_syntax.specs.Answers.{Gives}
-use Rattle.tg_syntax.specs.Parsing.{load_limit, IsFormFault, Parses, Tells, finished, fault_before}
+use Rattle.tg_syntax.specs.Parsing.{IsFormFault, Parses, Tells, finished, fault_before}
 
 -- what stands before the last tokens
 front_of : (ts front left : List Seen) → ts ≡ front ++ left → take (length ts - length left) ts ≡ front
@@ -57,7 +58,7 @@ module _ (n : Part) (bytes : List ℕ) (tokens : List Token) (low : load_passes 
   as_seen : (left : ℕ) → IsFormFault n (seen bytes tokens) (declarations (take (length (seen bytes tokens) - left) (seen bytes tokens)))
       → Parses n bytes tokens (Err (fault_before bytes tokens left))
   as_seen left h =
-      (low, subst (λ k. IsFormFault n (seen bytes tokens) (declarations (take (k - left) (seen bytes tokens)))) (length-map tokens (seen_token bytes)) h)
+      (low, subst (λ k. IsFormFault n (seen bytes tokens) (declarations (take (k - left) (seen bytes tokens)))) (length-map tokens (seen_token version_one bytes)) h)
 
   pub parsed : (read : Result (Value n) Stop) (left : List Seen) → Gives read left (reads n (seen bytes tokens)) → Parses n bytes tokens (finished bytes tokens read (length left))
   parsed (Ok v) [] e = (low, (reads_texts n v (seen bytes tokens)).0 e)

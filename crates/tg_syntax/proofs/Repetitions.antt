@@ -1,42 +1,59 @@
 -- Repetitions, read one after another: what was read so far stands in front of what is still read.
 use Rattle.std.proofs.Common.{◌≡◌, true, false, List, [], ◌∷◌, ◌++◌}
-use Rattle.tg_rules.specs.Reader.{ok, err, starts}
+use Rattle.tg_rules.specs.Reader.{Read, ok, err, starts, token_at}
 use Rattle.tg_rules.specs.Repetition.{with_front}
-use Rattle.tg_rules.proofs.Repetition.{front_end, front_next, front_fault}
+use Rattle.tg_rules.proofs.Repetition.{front_end, front_next, front_fault, without_front, last_one, one_behind, some_fault}
 use Rattle.tg_grammar.specs.declared.types.RawTy.{RawTy}
 use Rattle.tg_grammar.specs.Seen.{Seen}
 use Rattle.tg_grammar.specs.Kinds.{comma, double_arrow}
 use Rattle.tg_grammar.specs.First as classes
-use Rattle.tg_grammar.specs.Parts.{MoreTypes, WholeType, MoreResults, TypeAtom, TypeAtoms}
+use Rattle.tg_grammar.specs.Parts.{WholeType, MoreTypes, MoreResults, FunctionType, TypeAtom, TypeAtoms}
 use Rattle.tg_grammar.specs.Reading.{kind, reads}
 use Rattle.tg_grammar.proofs.Readings.{reads_by_rule}
-use Rattle.tg_syntax.specs.Answers.{behind}
+use Rattle.tg_syntax.specs.Pieces as pieces
 
-pub more_types_end : (front : List RawTy) (ts : List Seen) → starts kind (comma ∷ []) ts ≡ false → with_front front (reads MoreTypes ts) ≡ ok front ts
-more_types_end = front_end (starts kind (comma ∷ [])) (behind comma (reads WholeType)) (reads MoreTypes) (reads_by_rule MoreTypes)
+abbrev by_commas : List Seen → Read Seen (List RawTy)
+by_commas = pieces.types_by_commas
 
-pub more_types_next : (front : List RawTy) (ts rest : List Seen) (t : RawTy) → starts kind (comma ∷ []) ts ≡ true → behind comma (reads WholeType) ts ≡ ok t rest
-    → with_front front (reads MoreTypes ts) ≡ with_front (front ++ t ∷ []) (reads MoreTypes rest)
-more_types_next = front_next (starts kind (comma ∷ [])) (behind comma (reads WholeType)) (reads MoreTypes) (reads_by_rule MoreTypes)
+pub commas_begin : (ts : List Seen) → with_front [] (by_commas ts) ≡ by_commas ts
+commas_begin ts = without_front (by_commas ts)
 
-pub more_types_fault : (front : List RawTy) (ts left : List Seen) → starts kind (comma ∷ []) ts ≡ true → behind comma (reads WholeType) ts ≡ err left
-    → with_front front (reads MoreTypes ts) ≡ err left
-more_types_fault = front_fault (starts kind (comma ∷ [])) (behind comma (reads WholeType)) (reads MoreTypes) (reads_by_rule MoreTypes)
+pub commas_end : (front : List RawTy) (ts rest : List Seen) (t : RawTy) → reads WholeType ts ≡ ok t rest → starts kind (comma ∷ []) rest ≡ false
+    → with_front front (by_commas ts) ≡ ok (front ++ t ∷ []) rest
+commas_end = last_one (starts kind (comma ∷ [])) (reads WholeType) (reads MoreTypes) (token_at kind (comma ∷ [])) (reads_by_rule MoreTypes)
 
-pub ruleset more_types = (more_types_end, more_types_next, more_types_fault)
+pub commas_next : (front : List RawTy) (ts rest left : List Seen) (t : RawTy) (s : Seen) → reads WholeType ts ≡ ok t rest → starts kind (comma ∷ []) rest ≡ true
+    → token_at kind (comma ∷ []) rest ≡ ok s left → with_front front (by_commas ts) ≡ with_front (front ++ t ∷ []) (by_commas left)
+commas_next = one_behind (starts kind (comma ∷ [])) (reads WholeType) (reads MoreTypes) (token_at kind (comma ∷ [])) (reads_by_rule MoreTypes)
 
-pub more_results_end : (front : List RawTy) (ts : List Seen) → starts kind (double_arrow ∷ []) ts ≡ false → with_front front (reads MoreResults ts) ≡ ok front ts
-more_results_end = front_end (starts kind (double_arrow ∷ [])) (behind double_arrow (reads WholeType)) (reads MoreResults) (reads_by_rule MoreResults)
+pub commas_fault : (front : List RawTy) (ts left : List Seen) → reads WholeType ts ≡ err left → with_front front (by_commas ts) ≡ err left
+commas_fault = some_fault (starts kind (comma ∷ [])) (reads WholeType) (reads MoreTypes)
 
-pub more_results_next : (front : List RawTy) (ts rest : List Seen) (t : RawTy) → starts kind (double_arrow ∷ []) ts ≡ true → behind double_arrow (reads WholeType) ts ≡ ok t rest
-    → with_front front (reads MoreResults ts) ≡ with_front (front ++ t ∷ []) (reads MoreResults rest)
-more_results_next = front_next (starts kind (double_arrow ∷ [])) (behind double_arrow (reads WholeType)) (reads MoreResults) (reads_by_rule MoreResults)
+pub ruleset types_by_commas = (commas_begin, commas_end, commas_next, commas_fault)
 
-pub more_results_fault : (front : List RawTy) (ts left : List Seen) → starts kind (double_arrow ∷ []) ts ≡ true → behind double_arrow (reads WholeType) ts ≡ err left
-    → with_front front (reads MoreResults ts) ≡ err left
-more_results_fault = front_fault (starts kind (double_arrow ∷ [])) (behind double_arrow (reads WholeType)) (reads MoreResults) (reads_by_rule MoreResults)
+abbrev by_arrows : List Seen → Read Seen (List RawTy)
+by_arrows = reads FunctionType
 
-pub ruleset more_results = (more_results_end, more_results_next, more_results_fault)
+arrows_are : (ts : List Seen) → by_arrows ts ≡ pieces.types_by_arrows ts
+arrows_are = reads_by_rule FunctionType
+
+pub arrows_begin : (ts : List Seen) → with_front [] (by_arrows ts) ≡ by_arrows ts
+arrows_begin ts = without_front (by_arrows ts)
+
+pub arrows_end : (front : List RawTy) (ts rest : List Seen) (t : RawTy) → reads WholeType ts ≡ ok t rest → starts kind (double_arrow ∷ []) rest ≡ false
+    → with_front front (by_arrows ts) ≡ ok (front ++ t ∷ []) rest
+arrows_end front ts rest t read e =
+    rw (arrows_are ts) (last_one (starts kind (double_arrow ∷ [])) (reads WholeType) (reads MoreResults) (token_at kind (double_arrow ∷ [])) (reads_by_rule MoreResults) front ts rest t read e)
+
+pub arrows_next : (front : List RawTy) (ts rest left : List Seen) (t : RawTy) (s : Seen) → reads WholeType ts ≡ ok t rest → starts kind (double_arrow ∷ []) rest ≡ true
+    → token_at kind (double_arrow ∷ []) rest ≡ ok s left → with_front front (by_arrows ts) ≡ with_front (front ++ t ∷ []) (by_arrows left)
+arrows_next front ts rest left t s read e token =
+    rw (arrows_are ts, arrows_are left) (one_behind (starts kind (double_arrow ∷ [])) (reads WholeType) (reads MoreResults) (token_at kind (double_arrow ∷ [])) (reads_by_rule MoreResults) front ts rest left t s read e token)
+
+pub arrows_fault : (front : List RawTy) (ts left : List Seen) → reads WholeType ts ≡ err left → with_front front (by_arrows ts) ≡ err left
+arrows_fault front ts left read = rw (arrows_are ts) (some_fault (starts kind (double_arrow ∷ [])) (reads WholeType) (reads MoreResults) front ts left read)
+
+pub ruleset types_by_arrows = (arrows_begin, arrows_end, arrows_next, arrows_fault)
 
 pub type_atoms_end : (front : List RawTy) (ts : List Seen) → starts kind classes.type_atoms ts ≡ false → with_front front (reads TypeAtoms ts) ≡ ok front ts
 type_atoms_end = front_end (starts kind classes.type_atoms) (reads TypeAtom) (reads TypeAtoms) (reads_by_rule TypeAtoms)

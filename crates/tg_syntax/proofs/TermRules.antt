@@ -3,10 +3,9 @@ use Rattle.std.proofs.Common.{◌≡◌, ℕ, ◌||◌, List, [], ◌∷◌, ◌
 use Rattle.tg_rules.specs.Rule.{has}
 use Rattle.tg_rules.specs.Reader.{starts}
 use Rattle.tg_grammar.specs.Seen.{Seen}
-use Rattle.tg_grammar.specs.Parts.{Mode, in_theory, in_certificate, Term, Variable, Branch, BranchHead, Implication, Disjunction, Conjunction, Negation, Comparison, Application, Atom, PlainAtom}
+use Rattle.tg_grammar.specs.Parts.{Mode, Term, Variable, Branch, BranchHead, Implication, Disjunction, Conjunction, Negation, Comparison, Application, Atom, PlainAtom}
 use Rattle.tg_grammar.specs.Reading.{kind, reads, step}
 use Rattle.tg_grammar.proofs.Readings.{reads_by_rule}
-use Rattle.tg_syntax.specs.TermPieces.{by_rule, plain_atom}
 
 pub term_is : (m : Mode) (ts : List Seen) → reads (Term m) ts ≡ step (Term m) ts
 term_is m = reads_by_rule (Term m)
@@ -41,9 +40,8 @@ application_is m = reads_by_rule (Application m)
 pub atom_is : (m : Mode) (ts : List Seen) → reads (Atom m) ts ≡ step (Atom m) ts
 atom_is m = reads_by_rule (Atom m)
 
-pub plain_atom_is : (m : Mode) (ts : List Seen) → reads (PlainAtom m) ts ≡ by_rule (plain_atom m) ts
-plain_atom_is in_theory = reads_by_rule (PlainAtom in_theory)
-plain_atom_is in_certificate = reads_by_rule (PlainAtom in_certificate)
+pub plain_atom_is : (m : Mode) (ts : List Seen) → reads (PlainAtom m) ts ≡ step (PlainAtom m) ts
+plain_atom_is m = reads_by_rule (PlainAtom m)
 
 -- ---- the next token is of one of two classes
 

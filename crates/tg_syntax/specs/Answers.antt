@@ -1,9 +1,11 @@
 -- What a reader of a part answers, and what it leaves.
-use Rattle.std.specs.Prelude.{ℕ, ◌≡◌, List, [], ◌∷◌, Option, Some, None, Result, Ok, Err, if◌then◌else◌}
-use Rattle.tg_rules.specs.Reader.{Read, ok, err, mapped, followed, starts, token_at}
+use Rattle.std.specs.Prelude.{ℕ, ◌≡◌, ◌<◌, Bool, true, false, List, [], ◌∷◌, length, Option, Some, None, Result, Ok, Err, if◌then◌else◌}
+use Rattle.tg_rules.specs.Reader.{Read, ok, err, mapped, followed, starts, token_at, read, read_in}
+use Rattle.tg_grammar.specs.Notation.{Grammar}
 use Rattle.tg_grammar.specs.Seen.{Seen}
-use Rattle.tg_grammar.specs.First.{words}
+use Rattle.tg_grammar.specs.First.{words, foresight}
 use Rattle.tg_grammar.specs.Reading.{kind}
+use Rattle.tg_grammar.specs.Table.{table}
 use Rattle.tg_syntax.specs.declared.reader.Stop.{Stop}
 use Rattle.tg_syntax.specs.declared.reader.Stop.TheVariants.{Memory, Wrong}
 
@@ -13,16 +15,30 @@ Gives (Ok value) left r = r ≡ ok value left
 Gives (Err Wrong) left r = r ≡ err left
 Gives (Err Memory) left r = Unit {0}
 
+-- read by a rule
+abbrev pub by_rule : {A : Type 0} → Grammar A → List Seen → Read Seen A
+by_rule g ts = read_in kind foresight (read kind foresight table) g ts
+
 -- the next token, which there is where a reader goes on
 abbrev pub next_seen : List Seen → Seen
 next_seen [] = record { kind = 0; value = 0; text = [] }
 next_seen (t ∷ ts) = t
 
--- the next token is taken, and the answer is its kind; or it is wrong
-abbrev pub Takes : Result ℕ Stop → List Seen → List Seen → Read Seen Seen → Type 0
-Takes (Ok kind) ts left r = (r ≡ ok (next_seen ts) left) × (kind ≡ (next_seen ts).kind)
+-- the next token is taken, or it is wrong
+abbrev pub Takes : {A : Type 0} → Result A Stop → List Seen → List Seen → Read Seen Seen → Type 0
+Takes (Ok u) ts left r = r ≡ ok (next_seen ts) left
 Takes (Err Wrong) ts left r = r ≡ err left
 Takes (Err Memory) ts left r = ⊥
+
+-- the next token is one of these and is left behind, or it isn't and nothing is
+abbrev pub Skips : Bool → List ℕ → List Seen → List Seen → Type 0
+Skips true ks ts left = (starts kind ks ts ≡ true) × (token_at kind ks ts ≡ ok (next_seen ts) left) × (length left < length ts)
+Skips false ks ts left = (starts kind ks ts ≡ false) × (token_at kind ks ts ≡ err ts) × (left ≡ ts)
+
+-- The rule reads a token and means a value by it, where the next token begins it.
+abbrev pub Finds : {A : Type 0} → Option A → List ℕ → List Seen → List Seen → Read Seen A → Type 0
+Finds (Some value) ks ts left r = (starts kind ks ts ≡ true) × (r ≡ ok value left) × (length left < length ts)
+Finds None ks ts left r = (starts kind ks ts ≡ false) × (r ≡ err ts) × (left ≡ ts)
 
 -- the text or the value of the next token, which is of one of these kinds
 abbrev pub text_at : List ℕ → List Seen → Read Seen (List ℕ)

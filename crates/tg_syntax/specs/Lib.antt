@@ -1,8 +1,6 @@
 pub mod Answers
-pub mod DeclarationPieces
-pub mod FormulaPieces
 pub mod Modes
+pub mod Outcomes
 pub mod Pieces
-pub mod StepPieces
-pub mod TermPieces
+pub mod Steps
 pub mod Parsing

@@ -1,7 +1,7 @@
 -- What a call answers that reads a whole text.
 use Rattle.std.specs.Prelude.{ℕ, zero, suc, ◌-◌, ◌≡◌, true, false, List, length, take, Result, Ok, Err}
 use Rattle.tg_lex.specs.declared.token.Token.{Token}
-use Rattle.tg_lex.specs.Load.{load_passes}
+use Rattle.tg_lex.specs.Load.{load_limit, load_passes}
 use Rattle.tg_rules.specs.Fault.{IsFault}
 use Rattle.tg_grammar.specs.Seen.{Seen, seen, declarations}
 use Rattle.tg_grammar.specs.Parts.{Part, Value}
@@ -11,10 +11,6 @@ use Rattle.tg_syntax.specs.declared.reader.Stop.TheVariants.{Wrong}
 use Rattle.tg_syntax.specs.declared.reader.Stop.TheVariants as stops
 use Rattle.tg_syntax.specs.declared.parsing.FormErr.{FormErr}
 use Rattle.tg_syntax.specs.declared.parsing.FormErr.TheVariants.{Nested, Form, Memory}
-
--- the load of nesting that a text may have
-abbrev pub load_limit : ℕ
-load_limit = 400
 
 -- The tokens are no text of the part, and so many of the words that begin declarations, outcomes and certificates stand before
 -- the fault: the longest front of the tokens with which some text of the part begins.

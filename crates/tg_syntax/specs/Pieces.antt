@@ -1,16 +1,30 @@
--- Tokens that are read together with what belongs to them.
-use Rattle.std.specs.Prelude.{ℕ, List}
-use Rattle.tg_rules.specs.Reader.{Read, mapped, token_at}
+-- Pieces of rules that have readers of their own.
+use Rattle.std.specs.Prelude.{List}
+use Rattle.tg_rules.specs.Rule.{nt, ◌∙∙◌}
+use Rattle.tg_rules.specs.Reader.{Read, mapped}
+use Rattle.tg_grammar.specs.declared.types.RawTy.{RawTy}
+use Rattle.tg_grammar.specs.Making.{applied, bracketed}
+use Rattle.tg_grammar.specs.Notation.{some}
+use Rattle.tg_grammar.specs.Parts.{TypeAtom, MoreTypeAtoms, WholeType, MoreTypes, MoreResults, AfterType}
+use Rattle.tg_grammar.specs.Reading.{reads}
 use Rattle.tg_grammar.specs.Seen.{Seen}
-use Rattle.tg_grammar.specs.First.{numbers}
-use Rattle.tg_grammar.specs.Making.{rule_place}
-use Rattle.tg_grammar.specs.Reading.{kind}
-use Rattle.tg_syntax.specs.Answers.{behind, value_at}
+use Rattle.tg_syntax.specs.Answers.{by_rule, optional_text}
 
--- a word and its number
-unfoldable pub setting : ℕ → List Seen → Read Seen ℕ
-setting k ts = behind k (value_at numbers) ts
+-- types with commas between them, and with `=>`
+abbrev pub types_by_commas : List Seen → Read Seen (List RawTy)
+types_by_commas = by_rule (some (nt WholeType ∙∙ nt MoreTypes))
 
--- the place of a rule, which is one of these kinds
-abbrev pub rule_at : List ℕ → List Seen → Read Seen ℕ
-rule_at ks ts = mapped (λ s. rule_place s.kind) (token_at kind ks ts)
+abbrev pub types_by_arrows : List Seen → Read Seen (List RawTy)
+types_by_arrows = by_rule (some (nt WholeType ∙∙ nt MoreResults))
+
+-- a type, or the name that is next applied to it
+abbrev pub named : RawTy → List Seen → Read Seen RawTy
+named ty ts = mapped (applied ty) (optional_text ts)
+
+-- what stands behind the first type in brackets
+abbrev pub behind_first : RawTy → List Seen → Read Seen RawTy
+behind_first first ts = mapped (λ x. bracketed first x.0 x.1) (reads AfterType ts)
+
+-- types in brackets and simple ones, with commas between them
+abbrev pub type_atoms_by_commas : List Seen → Read Seen (List RawTy)
+type_atoms_by_commas = by_rule (some (nt TypeAtom ∙∙ nt MoreTypeAtoms))

@@ -1,10 +1,10 @@
 //! Variables, numbered or where they are bound.
 ghost use Rattle.std.specs.Prelude.{◌≡◌, ◌<◌, ◌≤◌, length, OnOk};
+ghost use Rattle.tg_grammar.specs.Page.{numbered_variable};
 ghost use Rattle.tg_grammar.specs.Parts.{Variable, Variables, BranchHead};
 ghost use Rattle.tg_grammar.specs.Reading.{reads};
-ghost use Rattle.tg_syntax.specs.Answers.{Gives};
+ghost use Rattle.tg_syntax.specs.Answers.{Gives, by_rule};
 ghost use Rattle.tg_syntax.specs.Modes.{mode_view};
-ghost use Rattle.tg_syntax.specs.TermPieces.{by_rule, numbered_variable};
 
 use crate::lists::one;
 use crate::modes::{Mode, is_variable_next};
@@ -23,7 +23,7 @@ pub(crate) fn variable(alloc: Global, mode: Mode, reader: &mut Reader) -> Result
     match mode {
         Mode::Theory => Ok(Binder::Named(reader.word(alloc)?)),
         Mode::Certificate => {
-            reader.take(&[BANG])?;
+            reader.take(BANG)?;
             Ok(Binder::Level(reader.number()?))
         }
     }
@@ -52,12 +52,10 @@ pub(crate) fn branch_head(
     ensures exact { Gives result reader.new (reads (BranchHead (mode_view mode)) reader.old) }
     ensures less { OnOk result (length reader.new < length reader.old) }
 {
-    if reader.is_next(&[ZERO_NUMBER]) {
-        reader.take(&[ZERO_NUMBER])?;
+    if reader.skips(ZERO_NUMBER) {
         return Ok((RawCon::Zero, Items::new(alloc)));
     }
-    if reader.is_next(&[SUC_WORD]) {
-        reader.take(&[SUC_WORD])?;
+    if reader.skips(SUC_WORD) {
         let argument = variable(alloc, mode, reader)?;
         return Ok((RawCon::Suc, one(alloc, argument)?));
     }
@@ -70,10 +68,9 @@ pub(crate) fn numbered_variable(reader: &mut Reader) -> Result<RawTerm, Stop>
     ensures exact { Gives result reader.new (by_rule numbered_variable reader.old) }
     ensures less { OnOk result (length reader.new < length reader.old) }
 {
-    if reader.is_next(&[QUESTION]) {
-        reader.take(&[QUESTION])?;
+    if reader.skips(QUESTION) {
         return Ok(RawTerm::Free(reader.number()?));
     }
-    reader.take(&[BANG])?;
+    reader.take(BANG)?;
     Ok(RawTerm::Bound(reader.number()?))
 }

@@ -1,18 +1,14 @@
 //! Certificates and their lines.
 ghost use Rattle.std.specs.Prelude.{◌≡◌, ◌<◌, ◌≤◌, length, OnOk};
-ghost use Rattle.tg_grammar.specs.Parts.{Certificate, Lines, Line, Step};
+ghost use Rattle.tg_grammar.specs.Parts.{Certificate, Lines, Line};
 ghost use Rattle.tg_grammar.specs.Reading.{reads};
 ghost use Rattle.tg_syntax.specs.Answers.{Gives};
 
-use crate::context_steps::step_in_context;
-use crate::line_steps::step_from_lines;
 use crate::reader::{Reader, Stop};
+use crate::steps::step;
 use sqlite_items::Items;
 use std::alloc::Global;
-use tg_grammar::kinds::{
-    BEGIN_WORD, CERTIFICATE_WORD, COMPUTE_RULE, DEEP_RULE, END_WORD, HYP_RULE, ONE_NUMBER,
-    REFL_RULE, SCHEMA_RULE, SEMICOLON, TRUE_RULE,
-};
+use tg_grammar::kinds::{BEGIN_WORD, CERTIFICATE_WORD, END_WORD, ONE_NUMBER, SEMICOLON};
 use tg_grammar::{RawCert, RawLine};
 
 /// `certificate 1 begin`, lines and `end`.
@@ -21,11 +17,11 @@ pub(crate) fn certificate(alloc: Global, reader: &mut Reader) -> Result<RawCert,
     ensures exact { Gives result reader.new (reads Certificate reader.old) }
     ensures less { OnOk result (length reader.new < length reader.old) }
 {
-    reader.take(&[CERTIFICATE_WORD])?;
-    reader.take(&[ONE_NUMBER])?;
-    reader.take(&[BEGIN_WORD])?;
+    reader.take(CERTIFICATE_WORD)?;
+    reader.take(ONE_NUMBER)?;
+    reader.take(BEGIN_WORD)?;
     let lines = lines(alloc, reader)?;
-    reader.take(&[END_WORD])?;
+    reader.take(END_WORD)?;
     Ok(RawCert { lines })
 }
 
@@ -37,8 +33,7 @@ fn lines(alloc: Global, reader: &mut Reader) -> Result<Items<RawLine>, Stop>
 {
     let mut lines = Items::new(alloc);
     while reader.is_number_next() {
-        let line = line(alloc, reader)?;
-        lines.push(line)?;
+        lines.push(line(alloc, reader)?)?;
     }
     Ok(lines)
 }
@@ -51,25 +46,6 @@ fn line(alloc: Global, reader: &mut Reader) -> Result<RawLine, Stop>
 {
     let number = reader.number()?;
     let step = step(alloc, reader)?;
-    reader.take(&[SEMICOLON])?;
+    reader.take(SEMICOLON)?;
     Ok(RawLine { number, ..step })
-}
-
-/// A rule and its arguments.
-#[tactic(auto, using(crate::proofs::CertificateRules::step_is))]
-fn step(alloc: Global, reader: &mut Reader) -> Result<RawLine, Stop>
-    ensures exact { Gives result reader.new (reads Step reader.old) }
-    ensures less { OnOk result (length reader.new < length reader.old) }
-{
-    if reader.is_next(&[
-        HYP_RULE,
-        TRUE_RULE,
-        REFL_RULE,
-        COMPUTE_RULE,
-        SCHEMA_RULE,
-        DEEP_RULE,
-    ]) {
-        return step_in_context(alloc, reader);
-    }
-    step_from_lines(alloc, reader)
 }

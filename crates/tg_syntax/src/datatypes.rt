@@ -1,11 +1,9 @@
 //! The type variables and the constructors of datatypes.
-ghost use Rattle.std.specs.Prelude.{◌≡◌, ◌<◌, ◌≤◌, [], ◌∷◌, length, OnOk};
-ghost use Rattle.tg_grammar.specs.Kinds.{comma, or, type_variable};
-ghost use Rattle.tg_grammar.specs.Parts.{Parameters, MoreParameters, Constructor, MoreConstructors};
+ghost use Rattle.std.specs.Prelude.{◌≡◌, ◌<◌, ◌≤◌, length, OnOk};
+ghost use Rattle.tg_grammar.specs.Page.{parameters, several_parameters, constructors_of};
+ghost use Rattle.tg_grammar.specs.Parts.{Parameters, Constructor};
 ghost use Rattle.tg_grammar.specs.Reading.{reads};
-ghost use Rattle.tg_syntax.specs.Answers.{Gives, behind, text_at};
-ghost use Rattle.tg_syntax.specs.DeclarationPieces.{several_parameters};
-ghost use Rattle.tg_syntax.specs.TermPieces.{by_rule};
+ghost use Rattle.tg_syntax.specs.Answers.{Gives, by_rule};
 
 use crate::lists::{in_front, one};
 use crate::reader::{Reader, Stop};
@@ -37,40 +35,32 @@ fn several_parameters(alloc: Global, reader: &mut Reader) -> Result<Items<Name>,
     ensures exact { Gives result reader.new (by_rule several_parameters reader.old) }
     ensures less { OnOk result (length reader.new < length reader.old) }
 {
-    reader.take(&[OPEN_PAREN])?;
+    reader.take(OPEN_PAREN)?;
     let first = reader.type_variable(alloc)?;
-    reader.take(&[COMMA])?;
-    let second = reader.type_variable(alloc)?;
-    let others = more_parameters(alloc, reader)?;
-    reader.take(&[CLOSE_PAREN])?;
-    Ok(in_front(alloc, first, in_front(alloc, second, others)?)?)
+    reader.take(COMMA)?;
+    let others = type_variables(alloc, reader)?;
+    reader.take(CLOSE_PAREN)?;
+    Ok(in_front(alloc, first, others)?)
 }
 
-/// Type variables, each after a comma.
-#[tactic(auto, using(crate::proofs::DatatypeRules::more_parameters))]
-fn more_parameters(alloc: Global, reader: &mut Reader) -> Result<Items<Name>, Stop>
-    ensures exact { Gives result reader.new (reads MoreParameters reader.old) }
-    ensures less { OnOk result (length reader.new ≤ length reader.old) }
-{
-    let mut names = Items::new(alloc);
-    while reader.is_next(&[COMMA]) {
-        names.push(parameter_after_comma(alloc, reader)?)?;
-    }
-    Ok(names)
-}
-
-/// `,` and a type variable.
-fn parameter_after_comma(alloc: Global, reader: &mut Reader) -> Result<Name, Stop>
-    ensures exact { Gives result reader.new (behind comma (text_at (type_variable ∷ [])) reader.old) }
+/// Type variables with commas between them.
+#[tactic(auto, using(crate::proofs::DatatypeRules::type_variables_by))]
+fn type_variables(alloc: Global, reader: &mut Reader) -> Result<Items<Name>, Stop>
+    ensures exact { Gives result reader.new (by_rule parameters reader.old) }
     ensures less { OnOk result (length reader.new < length reader.old) }
 {
-    reader.take(&[COMMA])?;
-    reader.type_variable(alloc)
+    let mut names = Items::new(alloc);
+    loop {
+        names.push(reader.type_variable(alloc)?)?;
+        if !reader.skips(COMMA) {
+            return Ok(names);
+        }
+    }
 }
 
 /// A name and the types of the arguments.
 #[tactic(auto, using(crate::proofs::DatatypeRules::constructor_is))]
-pub(crate) fn constructor(alloc: Global, reader: &mut Reader) -> Result<RawConDef, Stop>
+fn constructor(alloc: Global, reader: &mut Reader) -> Result<RawConDef, Stop>
     ensures exact { Gives result reader.new (reads Constructor reader.old) }
     ensures less { OnOk result (length reader.new < length reader.old) }
 {
@@ -79,27 +69,17 @@ pub(crate) fn constructor(alloc: Global, reader: &mut Reader) -> Result<RawConDe
     Ok(RawConDef { name, args })
 }
 
-/// Constructors, each after `|`.
-#[tactic(auto, using(crate::proofs::DatatypeRules::more_constructors))]
-pub(crate) fn more_constructors(
-    alloc: Global,
-    reader: &mut Reader,
-) -> Result<Items<RawConDef>, Stop>
-    ensures exact { Gives result reader.new (reads MoreConstructors reader.old) }
-    ensures less { OnOk result (length reader.new ≤ length reader.old) }
-{
-    let mut constructors = Items::new(alloc);
-    while reader.is_next(&[OR]) {
-        constructors.push(constructor_after_or(alloc, reader)?)?;
-    }
-    Ok(constructors)
-}
-
-/// `|` and a constructor.
-fn constructor_after_or(alloc: Global, reader: &mut Reader) -> Result<RawConDef, Stop>
-    ensures exact { Gives result reader.new (behind or (reads Constructor) reader.old) }
+/// Constructors with `|` between them.
+#[tactic(auto, using(crate::proofs::DatatypeRules::constructors_by))]
+pub(crate) fn constructors(alloc: Global, reader: &mut Reader) -> Result<Items<RawConDef>, Stop>
+    ensures exact { Gives result reader.new (by_rule constructors_of reader.old) }
     ensures less { OnOk result (length reader.new < length reader.old) }
 {
-    reader.take(&[OR])?;
-    constructor(alloc, reader)
+    let mut constructors = Items::new(alloc);
+    loop {
+        constructors.push(constructor(alloc, reader)?)?;
+        if !reader.skips(OR) {
+            return Ok(constructors);
+        }
+    }
 }

@@ -1,16 +1,14 @@
 //! Declarations and theories.
 ghost use Rattle.std.specs.Prelude.{◌≡◌, ◌<◌, ◌≤◌, length, OnOk};
+ghost use Rattle.tg_grammar.specs.Page.{datatype, primrec, definition, program, specification};
 ghost use Rattle.tg_grammar.specs.Parts.{Theory, Declaration, Declarations};
 ghost use Rattle.tg_grammar.specs.Reading.{reads};
-ghost use Rattle.tg_syntax.specs.Answers.{Gives};
-ghost use Rattle.tg_syntax.specs.DeclarationPieces.{datatype, primrec, definition, program, specification};
-ghost use Rattle.tg_syntax.specs.TermPieces.{by_rule};
+ghost use Rattle.tg_syntax.specs.Answers.{Gives, by_rule};
 
-use crate::datatypes::{constructor, more_constructors, parameters};
-use crate::equations::{equation, equations};
-use crate::lists::in_front;
+use crate::datatypes::{constructors, parameters};
+use crate::equations::equations;
 use crate::modes::Mode;
-use crate::patterns::words;
+use crate::patterns::names;
 use crate::reader::{Reader, Stop};
 use crate::terms::term;
 use crate::types::function_type;
@@ -28,13 +26,13 @@ pub(crate) fn theory(alloc: Global, reader: &mut Reader) -> Result<RawTheory, St
     ensures exact { Gives result reader.new (reads Theory reader.old) }
     ensures less { OnOk result (length reader.new < length reader.old) }
 {
-    reader.take(&[THEORY_WORD])?;
+    reader.take(THEORY_WORD)?;
     let name = reader.word(alloc)?;
-    reader.take(&[VERSION_WORD])?;
-    reader.take(&[ONE_NUMBER])?;
-    reader.take(&[BEGIN_WORD])?;
+    reader.take(VERSION_WORD)?;
+    reader.take(ONE_NUMBER)?;
+    reader.take(BEGIN_WORD)?;
     let decls = declarations(alloc, reader)?;
-    reader.take(&[END_WORD])?;
+    reader.take(END_WORD)?;
     Ok(RawTheory {
         name,
         version: 1,
@@ -56,8 +54,7 @@ fn declarations(alloc: Global, reader: &mut Reader) -> Result<Items<RawDecl>, St
         PROGRAM_WORD,
         SPEC_WORD,
     ]) {
-        let declaration = declaration(alloc, reader)?;
-        declarations.push(declaration)?;
+        declarations.push(declaration(alloc, reader)?)?;
     }
     Ok(declarations)
 }
@@ -88,18 +85,13 @@ fn datatype(alloc: Global, reader: &mut Reader) -> Result<RawDecl, Stop>
     ensures exact { Gives result reader.new (by_rule datatype reader.old) }
     ensures less { OnOk result (length reader.new < length reader.old) }
 {
-    reader.take(&[DATATYPE_WORD])?;
+    reader.take(DATATYPE_WORD)?;
     let params = parameters(alloc, reader)?;
     let name = reader.word(alloc)?;
-    reader.take(&[EQUAL])?;
-    let first = constructor(alloc, reader)?;
-    let others = more_constructors(alloc, reader)?;
-    reader.take(&[SEMICOLON])?;
-    Ok(RawDecl::Datatype {
-        name,
-        params,
-        cons: in_front(alloc, first, others)?,
-    })
+    reader.take(EQUAL)?;
+    let cons = constructors(alloc, reader)?;
+    reader.take(SEMICOLON)?;
+    Ok(RawDecl::Datatype { name, params, cons })
 }
 
 /// `primrec`, a name, `::`, a type, `where` and equations.
@@ -107,18 +99,13 @@ fn primrec(alloc: Global, reader: &mut Reader) -> Result<RawDecl, Stop>
     ensures exact { Gives result reader.new (by_rule primrec reader.old) }
     ensures less { OnOk result (length reader.new < length reader.old) }
 {
-    reader.take(&[PRIMREC_WORD])?;
+    reader.take(PRIMREC_WORD)?;
     let name = reader.word(alloc)?;
-    reader.take(&[DOUBLE_COLON])?;
+    reader.take(DOUBLE_COLON)?;
     let tys = function_type(alloc, reader)?;
-    reader.take(&[WHERE_WORD])?;
-    let first = equation(alloc, reader)?;
-    let others = equations(alloc, reader)?;
-    Ok(RawDecl::Primrec {
-        name,
-        tys,
-        eqs: in_front(alloc, first, others)?,
-    })
+    reader.take(WHERE_WORD)?;
+    let eqs = equations(alloc, reader)?;
+    Ok(RawDecl::Primrec { name, tys, eqs })
 }
 
 /// `definition`, a name, `::`, a type, `where` and equations.
@@ -126,18 +113,13 @@ fn definition(alloc: Global, reader: &mut Reader) -> Result<RawDecl, Stop>
     ensures exact { Gives result reader.new (by_rule definition reader.old) }
     ensures less { OnOk result (length reader.new < length reader.old) }
 {
-    reader.take(&[DEFINITION_WORD])?;
+    reader.take(DEFINITION_WORD)?;
     let name = reader.word(alloc)?;
-    reader.take(&[DOUBLE_COLON])?;
+    reader.take(DOUBLE_COLON)?;
     let tys = function_type(alloc, reader)?;
-    reader.take(&[WHERE_WORD])?;
-    let first = equation(alloc, reader)?;
-    let others = equations(alloc, reader)?;
-    Ok(RawDecl::Definition {
-        name,
-        tys,
-        eqs: in_front(alloc, first, others)?,
-    })
+    reader.take(WHERE_WORD)?;
+    let eqs = equations(alloc, reader)?;
+    Ok(RawDecl::Definition { name, tys, eqs })
 }
 
 /// `program`, a name, `::`, a type and `;`.
@@ -145,11 +127,11 @@ fn program(alloc: Global, reader: &mut Reader) -> Result<RawDecl, Stop>
     ensures exact { Gives result reader.new (by_rule program reader.old) }
     ensures less { OnOk result (length reader.new < length reader.old) }
 {
-    reader.take(&[PROGRAM_WORD])?;
+    reader.take(PROGRAM_WORD)?;
     let name = reader.word(alloc)?;
-    reader.take(&[DOUBLE_COLON])?;
+    reader.take(DOUBLE_COLON)?;
     let tys = function_type(alloc, reader)?;
-    reader.take(&[SEMICOLON])?;
+    reader.take(SEMICOLON)?;
     Ok(RawDecl::Program { name, tys })
 }
 
@@ -158,14 +140,10 @@ fn specification(alloc: Global, reader: &mut Reader) -> Result<RawDecl, Stop>
     ensures exact { Gives result reader.new (by_rule specification reader.old) }
     ensures less { OnOk result (length reader.new < length reader.old) }
 {
-    reader.take(&[SPEC_WORD])?;
-    let first = reader.word(alloc)?;
-    let others = words(alloc, reader)?;
-    reader.take(&[DOT])?;
+    reader.take(SPEC_WORD)?;
+    let vars = names(alloc, reader)?;
+    reader.take(DOT)?;
     let body = term(alloc, Mode::Theory, reader)?;
-    reader.take(&[SEMICOLON])?;
-    Ok(RawDecl::Spec {
-        vars: in_front(alloc, first, others)?,
-        body,
-    })
+    reader.take(SEMICOLON)?;
+    Ok(RawDecl::Spec { vars, body })
 }

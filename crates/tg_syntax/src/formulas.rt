@@ -1,24 +1,24 @@
 //! Formulas.
 ghost use Rattle.std.specs.Prelude.{◌≡◌, ◌<◌, length, IfOk, OnOk};
 ghost use Rattle.tg_grammar.specs.Making.{connected};
+ghost use Rattle.tg_grammar.specs.Page.{term_formula, for_all, there_is, test_hypothesis, tested, deep};
 ghost use Rattle.tg_grammar.specs.Parts.{Formula, MarkedFormula, InnerFormula};
 ghost use Rattle.tg_grammar.specs.Reading.{reads};
-ghost use Rattle.tg_syntax.specs.Answers.{Gives};
-ghost use Rattle.tg_syntax.specs.FormulaPieces.{term_formula, for_all, there_is, test_hypothesis, tested, deep};
-ghost use Rattle.tg_syntax.specs.TermPieces.{by_rule};
+ghost use Rattle.tg_syntax.specs.Answers.{Gives, by_rule};
 
-use crate::lists::in_front;
 use crate::modes::Mode;
+use crate::operators::connective;
 use crate::reader::{Reader, Stop};
-use crate::terms::{atom, atoms, term};
+use crate::terms::{arguments, term};
 use crate::types::type_atom;
 use sqlite_items::Boxed;
 use std::alloc::{AllocError, Global};
 use tg_grammar::RawFormula;
 use tg_grammar::kinds::{
-    ALL_WORD, AND, ARROW, CLOSE_BRACKET, CLOSE_PAREN, DEEP_RULE, DOT, EXISTS_WORD, OPEN_BRACKET,
-    OPEN_PAREN, TESTED_WORD, THYP_WORD,
+    ALL_WORD, CLOSE_BRACKET, CLOSE_PAREN, DEEP_RULE, DOT, EXISTS_WORD, OPEN_BRACKET, OPEN_PAREN,
+    TESTED_WORD, THYP_WORD,
 };
+use tg_grammar::operators::IMPLIES;
 
 /// `[`, a term and `]`, or a formula in round brackets.
 #[cycle(formulas)]
@@ -30,9 +30,9 @@ pub(crate) fn formula(alloc: Global, reader: &mut Reader) -> Result<RawFormula, 
     if reader.is_next(&[OPEN_BRACKET]) {
         return term_formula(alloc, reader);
     }
-    reader.take(&[OPEN_PAREN])?;
+    reader.take(OPEN_PAREN)?;
     let inner = inner_formula(alloc, reader)?;
-    reader.take(&[CLOSE_PAREN])?;
+    reader.take(CLOSE_PAREN)?;
     Ok(inner)
 }
 
@@ -41,9 +41,9 @@ fn term_formula(alloc: Global, reader: &mut Reader) -> Result<RawFormula, Stop>
     ensures exact { Gives result reader.new (by_rule term_formula reader.old) }
     ensures less { OnOk result (length reader.new < length reader.old) }
 {
-    reader.take(&[OPEN_BRACKET])?;
+    reader.take(OPEN_BRACKET)?;
     let term = term(alloc, Mode::Certificate, reader)?;
-    reader.take(&[CLOSE_BRACKET])?;
+    reader.take(CLOSE_BRACKET)?;
     Ok(RawFormula::Atom(term))
 }
 
@@ -58,9 +58,9 @@ fn inner_formula(alloc: Global, reader: &mut Reader) -> Result<RawFormula, Stop>
         return marked_formula(alloc, reader);
     }
     let left = formula(alloc, reader)?;
-    let connective = reader.take(&[AND, ARROW])?;
+    let operator = connective(reader)?;
     let right = formula(alloc, reader)?;
-    Ok(connected(alloc, left, connective, right)?)
+    Ok(connected(alloc, left, operator, right)?)
 }
 
 /// `ALL`, `EX`, `THYP`, `tested` or `deep`, and what belongs to it.
@@ -91,9 +91,9 @@ fn for_all(alloc: Global, reader: &mut Reader) -> Result<RawFormula, Stop>
     ensures exact { Gives result reader.new (by_rule for_all reader.old) }
     ensures less { OnOk result (length reader.new < length reader.old) }
 {
-    reader.take(&[ALL_WORD])?;
+    reader.take(ALL_WORD)?;
     let ty = type_atom(alloc, reader)?;
-    reader.take(&[DOT])?;
+    reader.take(DOT)?;
     let body = formula(alloc, reader)?;
     Ok(RawFormula::All(ty, Boxed::new(alloc, body)?))
 }
@@ -104,9 +104,9 @@ fn there_is(alloc: Global, reader: &mut Reader) -> Result<RawFormula, Stop>
     ensures exact { Gives result reader.new (by_rule there_is reader.old) }
     ensures less { OnOk result (length reader.new < length reader.old) }
 {
-    reader.take(&[EXISTS_WORD])?;
+    reader.take(EXISTS_WORD)?;
     let ty = type_atom(alloc, reader)?;
-    reader.take(&[DOT])?;
+    reader.take(DOT)?;
     let body = formula(alloc, reader)?;
     Ok(RawFormula::Ex(ty, Boxed::new(alloc, body)?))
 }
@@ -117,7 +117,7 @@ fn test_hypothesis(alloc: Global, reader: &mut Reader) -> Result<RawFormula, Sto
     ensures exact { Gives result reader.new (by_rule test_hypothesis reader.old) }
     ensures less { OnOk result (length reader.new < length reader.old) }
 {
-    reader.take(&[THYP_WORD])?;
+    reader.take(THYP_WORD)?;
     let body = formula(alloc, reader)?;
     Ok(RawFormula::Thyp(Boxed::new(alloc, body)?))
 }
@@ -127,10 +127,8 @@ fn tested(alloc: Global, reader: &mut Reader) -> Result<RawFormula, Stop>
     ensures exact { Gives result reader.new (by_rule tested reader.old) }
     ensures less { OnOk result (length reader.new < length reader.old) }
 {
-    reader.take(&[TESTED_WORD])?;
-    let first = atom(alloc, Mode::Certificate, reader)?;
-    let others = atoms(alloc, Mode::Certificate, reader)?;
-    Ok(RawFormula::Tested(in_front(alloc, first, others)?))
+    reader.take(TESTED_WORD)?;
+    Ok(RawFormula::Tested(arguments(alloc, Mode::Certificate, reader)?))
 }
 
 /// `deep`, a number and one atom or more.
@@ -138,25 +136,24 @@ fn deep(alloc: Global, reader: &mut Reader) -> Result<RawFormula, Stop>
     ensures exact { Gives result reader.new (by_rule deep reader.old) }
     ensures less { OnOk result (length reader.new < length reader.old) }
 {
-    reader.take(&[DEEP_RULE])?;
+    reader.take(DEEP_RULE)?;
     let depth = reader.number()?;
-    let first = atom(alloc, Mode::Certificate, reader)?;
-    let others = atoms(alloc, Mode::Certificate, reader)?;
-    Ok(RawFormula::Deep(depth, in_front(alloc, first, others)?))
+    let terms = arguments(alloc, Mode::Certificate, reader)?;
+    Ok(RawFormula::Deep(depth, terms))
 }
 
-/// Two formulas with a connective between them, which is `&` or `-->`.
+/// Two formulas with `&` or `-->` between them.
 fn connected(
     alloc: Global,
     left: RawFormula,
-    connective: u32,
+    operator: u32,
     right: RawFormula,
 ) -> Result<RawFormula, AllocError>
-    ensures { IfOk result (λ f. f ≡ connected left connective right) }
+    ensures { IfOk result (λ f. f ≡ connected left operator right) }
 {
     let left = Boxed::new(alloc, left)?;
     let right = Boxed::new(alloc, right)?;
-    if connective == ARROW {
+    if operator == IMPLIES {
         return Ok(RawFormula::Imp(left, right));
     }
     Ok(RawFormula::And(left, right))

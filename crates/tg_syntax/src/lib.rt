@@ -2,25 +2,22 @@
 //! them, one reader a part of the grammar.
 #![tactic(auto)]
 
-mod arguments;
 mod binders;
 mod certificates;
-mod context_steps;
 mod datatypes;
 mod declarations;
 mod entries;
 mod equations;
 mod formulas;
-mod line_steps;
 mod lists;
 mod modes;
+mod operators;
 mod outcomes;
 mod parsing;
 mod patterns;
 mod reader;
+mod steps;
 mod terms;
-#[cfg(test)]
-mod tests;
 mod types;
 
 pub use parsing::{FormErr, parse_check, parse_judge, parse_theory};

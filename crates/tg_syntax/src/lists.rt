@@ -4,22 +4,23 @@ ghost use Rattle.std.specs.Prelude.{◌≡◌, [], ◌∷◌, IfOk};
 use sqlite_items::Items;
 use std::alloc::{AllocError, Global};
 
-/// A list of one.
+/// A list of one. Here and below no more room is taken than the list needs, since a text has many of them.
 pub(crate) fn one<T: Drop>(alloc: Global, item: T) -> Result<Items<T>, AllocError>
     ensures { IfOk result (λ items. items ≡ item ∷ []) }
 {
-    let mut items = Items::new(alloc);
+    let mut items = Vec::with_capacity(alloc, 1)?;
     items.push(item)?;
-    Ok(items)
+    Ok(Items::from_vec(items))
 }
 
 /// A list of two.
 pub(crate) fn two<T: Drop>(alloc: Global, first: T, second: T) -> Result<Items<T>, AllocError>
     ensures { IfOk result (λ items. items ≡ first ∷ second ∷ []) }
 {
-    let mut items = one(alloc, first)?;
+    let mut items = Vec::with_capacity(alloc, 2)?;
+    items.push(first)?;
     items.push(second)?;
-    Ok(items)
+    Ok(Items::from_vec(items))
 }
 
 /// A list with one more in front.
@@ -44,7 +45,9 @@ pub(crate) fn three<T: Drop>(
 ) -> Result<Items<T>, AllocError>
     ensures { IfOk result (λ items. items ≡ first ∷ second ∷ third ∷ []) }
 {
-    let mut items = two(alloc, first, second)?;
+    let mut items = Vec::with_capacity(alloc, 3)?;
+    items.push(first)?;
+    items.push(second)?;
     items.push(third)?;
-    Ok(items)
+    Ok(Items::from_vec(items))
 }

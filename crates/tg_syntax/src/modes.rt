@@ -7,7 +7,8 @@ ghost use Rattle.tg_syntax.specs.Modes.{mode_view};
 
 use crate::reader::Reader;
 use tg_grammar::kinds::{
-    BANG, FALSE_WORD, ONE_NUMBER, OPEN_PAREN, OTHER_NUMBER, QUESTION, TRUE_WORD, ZERO_NUMBER,
+    BANG, FALSE_WORD, ONE_NUMBER, OPEN_PAREN, OTHER_NUMBER, QUESTION, SMALL_NUMBER, TRUE_WORD,
+    TWO_NUMBER, ZERO_NUMBER,
 };
 
 /// Where a term stands. Variables that are bound are words in a theory, and numbered in a certificate.
@@ -37,6 +38,8 @@ pub(crate) fn is_plain_atom_next(mode: Mode, reader: &Reader) -> bool
         Mode::Theory => reader.is_next(&[
             ZERO_NUMBER,
             ONE_NUMBER,
+            TWO_NUMBER,
+            SMALL_NUMBER,
             OTHER_NUMBER,
             TRUE_WORD,
             FALSE_WORD,
@@ -45,6 +48,8 @@ pub(crate) fn is_plain_atom_next(mode: Mode, reader: &Reader) -> bool
         Mode::Certificate => reader.is_next(&[
             ZERO_NUMBER,
             ONE_NUMBER,
+            TWO_NUMBER,
+            SMALL_NUMBER,
             OTHER_NUMBER,
             TRUE_WORD,
             FALSE_WORD,

@@ -3,7 +3,7 @@ ghost use Rattle.std.specs.Prelude.{◌≡◌, ◌<◌, ◌≤◌, length, OnOk}
 ghost use Rattle.tg_grammar.specs.Parts as parts;
 ghost use Rattle.tg_grammar.specs.Reading.{reads};
 ghost use Rattle.tg_syntax.specs.Answers.{Gives};
-ghost use Rattle.tg_syntax.specs.Pieces.{setting};
+ghost use Rattle.tg_syntax.specs.Outcomes.{setting};
 
 use crate::modes::{Mode, is_atom_next, is_plain_atom_next};
 use crate::reader::{Reader, Stop};
@@ -21,15 +21,15 @@ pub(crate) fn outcomes(alloc: Global, reader: &mut Reader) -> Result<RawOutcomes
     ensures exact { Gives result reader.new (reads parts.Outcomes reader.old) }
     ensures less { OnOk result (length reader.new < length reader.old) }
 {
-    reader.take(&[OUTCOMES_WORD])?;
+    reader.take(OUTCOMES_WORD)?;
     let depth = setting(reader, DEPTH_WORD)?;
     let bound = setting(reader, BOUND_WORD)?;
     let seed = setting(reader, SEED_WORD)?;
     let tries = setting(reader, TRIES_WORD)?;
     let width = setting(reader, WIDTH_WORD)?;
-    reader.take(&[BEGIN_WORD])?;
+    reader.take(BEGIN_WORD)?;
     let items = items(alloc, reader)?;
-    reader.take(&[END_WORD])?;
+    reader.take(END_WORD)?;
     Ok(RawOutcomes {
         settings: [depth, bound, seed, tries, width],
         items,
@@ -37,12 +37,12 @@ pub(crate) fn outcomes(alloc: Global, reader: &mut Reader) -> Result<RawOutcomes
 }
 
 /// A word and its number.
-#[tactic(auto, unfolding(crate::specs::Pieces::setting))]
+#[tactic(auto, unfolding(crate::specs::Outcomes::setting))]
 fn setting(reader: &mut Reader, word: u32) -> Result<u64, Stop>
     ensures exact { Gives result reader.new (setting word reader.old) }
     ensures less { OnOk result (length reader.new < length reader.old) }
 {
-    reader.take(&[word])?;
+    reader.take(word)?;
     reader.number()
 }
 
@@ -65,19 +65,18 @@ fn item(alloc: Global, reader: &mut Reader) -> Result<RawItem, Stop>
     ensures exact { Gives result reader.new (reads parts.Item reader.old) }
     ensures less { OnOk result (length reader.new < length reader.old) }
 {
-    if reader.is_next(&[ANSWER_WORD]) {
-        reader.take(&[ANSWER_WORD])?;
+    if reader.skips(ANSWER_WORD) {
         let test = reader.number()?;
         let answer = answer(alloc, reader)?;
-        reader.take(&[SEMICOLON])?;
+        reader.take(SEMICOLON)?;
         return Ok(RawItem {
             test,
             answer: Some(answer),
         });
     }
-    reader.take(&[RAISED_WORD])?;
+    reader.take(RAISED_WORD)?;
     let test = reader.number()?;
-    reader.take(&[SEMICOLON])?;
+    reader.take(SEMICOLON)?;
     Ok(RawItem { test, answer: None })
 }
 
@@ -111,15 +110,14 @@ fn answer_atom(alloc: Global, reader: &mut Reader) -> Result<RawTerm, Stop>
 
 /// Plain answers and words, one after another.
 #[cycle(answers)]
-#[tactic(auto, using(crate::proofs::OutcomeRules::answer_atoms))]
+#[tactic(auto, using(crate::proofs::OutcomeRules::answer_atoms_by))]
 fn answer_atoms(alloc: Global, reader: &mut Reader) -> Result<Items<RawTerm>, Stop>
     ensures exact { Gives result reader.new (reads parts.AnswerAtoms reader.old) }
     ensures less { OnOk result (length reader.new ≤ length reader.old) }
 {
     let mut atoms = Items::new(alloc);
     while is_atom_next(Mode::Theory, reader) {
-        let atom = answer_atom(alloc, reader)?;
-        atoms.push(atom)?;
+        atoms.push(answer_atom(alloc, reader)?)?;
     }
     Ok(atoms)
 }
@@ -131,19 +129,17 @@ fn plain_answer(alloc: Global, reader: &mut Reader) -> Result<RawTerm, Stop>
     ensures exact { Gives result reader.new (reads parts.PlainAnswer reader.old) }
     ensures less { OnOk result (length reader.new < length reader.old) }
 {
-    if reader.is_number_next() {
-        return Ok(RawTerm::Num(reader.number()?));
+    if let Some(number) = reader.next_number() {
+        return Ok(RawTerm::Num(number));
     }
-    if reader.is_next(&[TRUE_WORD]) {
-        reader.take(&[TRUE_WORD])?;
+    if reader.skips(TRUE_WORD) {
         return Ok(RawTerm::Truth(true));
     }
-    if reader.is_next(&[FALSE_WORD]) {
-        reader.take(&[FALSE_WORD])?;
+    if reader.skips(FALSE_WORD) {
         return Ok(RawTerm::Truth(false));
     }
-    reader.take(&[OPEN_PAREN])?;
+    reader.take(OPEN_PAREN)?;
     let answer = answer(alloc, reader)?;
-    reader.take(&[CLOSE_PAREN])?;
+    reader.take(CLOSE_PAREN)?;
     Ok(answer)
 }

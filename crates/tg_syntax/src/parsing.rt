@@ -7,7 +7,7 @@ use crate::declarations::theory;
 use crate::entries::{theory_and_certificate, theory_and_outcomes};
 use crate::reader::{Reader, Stop};
 use std::alloc::{AllocError, Global};
-use tg_grammar::{RawCert, RawOutcomes, RawTheory, place};
+use tg_grammar::{RawCert, RawOutcomes, RawTheory, Vocabulary, place};
 use tg_lex::{Token, is_nested};
 
 /// Why the tokens of a text aren't read.
@@ -48,7 +48,7 @@ pub fn parse_theory(alloc: Global, bytes: &[u8], tokens: &[Token]) -> Result<Raw
     if is_nested(alloc, bytes, tokens)? {
         return Err(FormErr::Nested);
     }
-    let mut reader = Reader::new(alloc, bytes, tokens)?;
+    let mut reader = Reader::new(Vocabulary::version_one(), bytes, tokens);
     let read = theory(alloc, &mut reader);
     finish(bytes, tokens, read, reader.len())
 }
@@ -69,7 +69,7 @@ pub fn parse_judge(
     if is_nested(alloc, bytes, tokens)? {
         return Err(FormErr::Nested);
     }
-    let mut reader = Reader::new(alloc, bytes, tokens)?;
+    let mut reader = Reader::new(Vocabulary::version_one(), bytes, tokens);
     let read = theory_and_outcomes(alloc, &mut reader);
     finish(bytes, tokens, read, reader.len())
 }
@@ -90,7 +90,7 @@ pub fn parse_check(
     if is_nested(alloc, bytes, tokens)? {
         return Err(FormErr::Nested);
     }
-    let mut reader = Reader::new(alloc, bytes, tokens)?;
+    let mut reader = Reader::new(Vocabulary::version_one(), bytes, tokens);
     let read = theory_and_certificate(alloc, &mut reader);
     finish(bytes, tokens, read, reader.len())
 }

@@ -2,11 +2,10 @@
 ghost use Rattle.std.specs.Prelude.{◌≡◌, ◌<◌, ◌≤◌, length, OnOk};
 ghost use Rattle.tg_rules.specs.Reader.{starts};
 ghost use Rattle.tg_grammar.specs.First.{pattern_kinds};
+ghost use Rattle.tg_grammar.specs.Page.{bracketed_pattern, pattern_head, names};
 ghost use Rattle.tg_grammar.specs.Parts.{Pattern, Patterns, Words};
 ghost use Rattle.tg_grammar.specs.Reading.{kind, reads};
-ghost use Rattle.tg_syntax.specs.Answers.{Gives};
-ghost use Rattle.tg_syntax.specs.DeclarationPieces.{bracketed_pattern, pattern_head};
-ghost use Rattle.tg_syntax.specs.TermPieces.{by_rule};
+ghost use Rattle.tg_syntax.specs.Answers.{Gives, by_rule};
 
 use crate::reader::{Reader, Stop};
 use sqlite_items::Items;
@@ -21,8 +20,7 @@ fn pattern(alloc: Global, reader: &mut Reader) -> Result<RawPat, Stop>
     ensures exact { Gives result reader.new (reads Pattern reader.old) }
     ensures less { OnOk result (length reader.new < length reader.old) }
 {
-    if reader.is_next(&[ZERO_NUMBER]) {
-        reader.take(&[ZERO_NUMBER])?;
+    if reader.skips(ZERO_NUMBER) {
         return Ok(RawPat::Zero);
     }
     if reader.is_next(&[OPEN_PAREN]) {
@@ -36,10 +34,10 @@ fn bracketed_pattern(alloc: Global, reader: &mut Reader) -> Result<RawPat, Stop>
     ensures exact { Gives result reader.new (by_rule bracketed_pattern reader.old) }
     ensures less { OnOk result (length reader.new < length reader.old) }
 {
-    reader.take(&[OPEN_PAREN])?;
+    reader.take(OPEN_PAREN)?;
     let constructor = pattern_head(alloc, reader)?;
     let names = words(alloc, reader)?;
-    reader.take(&[CLOSE_PAREN])?;
+    reader.take(CLOSE_PAREN)?;
     Ok(RawPat::Con(constructor, names))
 }
 
@@ -48,8 +46,7 @@ fn pattern_head(alloc: Global, reader: &mut Reader) -> Result<RawCon, Stop>
     ensures exact { Gives result reader.new (by_rule pattern_head reader.old) }
     ensures less { OnOk result (length reader.new < length reader.old) }
 {
-    if reader.is_next(&[SUC_WORD]) {
-        reader.take(&[SUC_WORD])?;
+    if reader.skips(SUC_WORD) {
         return Ok(RawCon::Suc);
     }
     Ok(RawCon::Named(reader.word(alloc)?))
@@ -63,8 +60,7 @@ pub(crate) fn patterns(alloc: Global, reader: &mut Reader) -> Result<Items<RawPa
 {
     let mut patterns = Items::new(alloc);
     while is_pattern_next(reader) {
-        let pattern = pattern(alloc, reader)?;
-        patterns.push(pattern)?;
+        patterns.push(pattern(alloc, reader)?)?;
     }
     Ok(patterns)
 }
@@ -79,14 +75,27 @@ fn is_pattern_next(reader: &Reader) -> bool
 
 /// Names, one after another.
 #[tactic(auto, using(crate::proofs::PatternRules::words_by))]
-pub(crate) fn words(alloc: Global, reader: &mut Reader) -> Result<Items<Name>, Stop>
+fn words(alloc: Global, reader: &mut Reader) -> Result<Items<Name>, Stop>
     ensures exact { Gives result reader.new (reads Words reader.old) }
     ensures less { OnOk result (length reader.new ≤ length reader.old) }
 {
-    let mut words = Items::new(alloc);
-    while reader.is_word_next() {
-        let word = reader.word(alloc)?;
-        words.push(word)?;
+    if !reader.is_word_next() {
+        return Ok(Items::new(alloc));
     }
-    Ok(words)
+    names(alloc, reader)
+}
+
+/// One name or more.
+#[tactic(auto, using(crate::proofs::PatternRules::names_by))]
+pub(crate) fn names(alloc: Global, reader: &mut Reader) -> Result<Items<Name>, Stop>
+    ensures exact { Gives result reader.new (by_rule names reader.old) }
+    ensures less { OnOk result (length reader.new < length reader.old) }
+{
+    let mut names = Items::new(alloc);
+    loop {
+        names.push(reader.word(alloc)?)?;
+        if !reader.is_word_next() {
+            return Ok(names);
+        }
+    }
 }

@@ -1,22 +1,22 @@
 //! The tokens that are still to be read.
-ghost use Rattle.std.specs.Prelude.{◌≡◌, ◌<◌, ◌≤◌, [], ◌∷◌, All, length, drop, map, IfOk, IfErr, OnOk};
+ghost use Rattle.std.specs.Prelude.{◌≡◌, ◌<◌, ◌≤◌, [], ◌∷◌, All, length, drop, IfOk, IfErr, OnOk, None, Some};
 ghost use Rattle.tg_lex.specs.Grammar.{IsTokenOf};
 ghost use Rattle.tg_rules.specs.Rule.{has};
 ghost use Rattle.tg_rules.specs.Reader.{starts, token_at};
-ghost use Rattle.tg_grammar.specs.First.{words, numbers, type_atoms};
-ghost use Rattle.tg_grammar.specs.Reading.{kind};
-ghost use Rattle.tg_grammar.specs.Seen.{seen};
+ghost use Rattle.tg_grammar.specs.First.{words, numbers, rules, type_atoms};
 ghost use Rattle.tg_grammar.specs.Kinds.{type_variable};
-ghost use Rattle.tg_syntax.specs.Pieces.{rule_at};
-ghost use Rattle.tg_syntax.specs.Answers.{Gives, Takes, text_at, value_at, next_kind, next_text, next_value, optional_text};
+ghost use Rattle.tg_grammar.specs.Reading.{kind};
+ghost use Rattle.tg_grammar.specs.Seen.{seen_with};
+ghost use Rattle.tg_syntax.specs.Answers.{Gives, Takes, Skips, Finds, text_at, value_at, next_kind, next_text, next_value, optional_text};
+ghost use Rattle.tg_syntax.specs.Steps.{rule_at};
 
 use std::alloc::{AllocError, Global};
 use std::marker::Model;
 use tg_grammar::kinds::{
-    BOOL_WORD, COMPUTE_RULE, HYP_RULE, NAT_WORD, ONE_NUMBER, OPEN_PAREN, OTHER_NUMBER, OTHER_WORD,
+    BOOL_WORD, COMPUTE_RULE, HYP_RULE, LAST_NAME, NAT_WORD, OPEN_PAREN, OTHER_NUMBER, OTHER_WORD,
     TYPE_VARIABLE, ZERO_NUMBER,
 };
-use tg_grammar::{kind_of, text_of, value_of};
+use tg_grammar::{Vocabulary, kind_of, text_of, value_of};
 use tg_lex::Token;
 use tg_types::Name;
 
@@ -39,45 +39,44 @@ impl From<AllocError> for Stop {
     }
 }
 
-/// The tokens of a text that are still to be read. A contract sees them as the grammar does. The kinds
-/// are found once, since readers ask for them often.
+/// The tokens of a text that are still to be read. A contract sees them as the grammar does. Of the kinds
+/// only that of the next token is kept.
 #[derive(Debug, Drop)]
 pub(crate) struct Reader<'a> {
+    vocabulary: Vocabulary,
     bytes: &'a [u8],
     tokens: &'a [Token],
-    kinds: Vec<u32>,
     at: usize,
+    next: Option<u32>,
 }
 
 impl<'a> Model for Reader<'a> {
-    ghost use Rattle.std.specs.Prelude.{◌≡◌, ◌≤◌, All, List, drop, length, map};
+    ghost use Rattle.std.specs.Prelude.{◌≡◌, ◌≤◌, All, List, drop, length};
     ghost use Rattle.tg_lex.specs.Grammar.{IsTokenOf};
-    ghost use Rattle.tg_grammar.specs.Reading.{kind};
-    ghost use Rattle.tg_grammar.specs.Seen.{Seen, seen};
+    ghost use Rattle.tg_grammar.specs.Seen.{Seen, seen_with};
+    ghost use Rattle.tg_syntax.specs.Answers.{next_kind};
 
     ghost Value = { List Seen };
 
-    ghost view = { λ r. drop r.at (seen r.bytes.now r.tokens.now) };
+    ghost view = { λ r. drop r.at (seen_with r.vocabulary r.bytes.now r.tokens.now) };
 
-    ghost invariant = { λ r. All (IsTokenOf r.bytes.now) r.tokens.now × (r.kinds.items ≡ map kind (seen r.bytes.now r.tokens.now)) × (r.at ≤ length r.tokens.now) };
+    ghost invariant = { λ r. All (IsTokenOf r.bytes.now) r.tokens.now × (r.next ≡ next_kind (drop r.at (seen_with r.vocabulary r.bytes.now r.tokens.now))) × (r.at ≤ length r.tokens.now) };
 }
 
 impl<'a> Reader<'a> {
-    /// All tokens of the bytes are still to be read.
-    pub(crate) fn new(
-        alloc: Global,
-        bytes: &'a [u8],
-        tokens: &'a [Token],
-    ) -> Result<Reader<'a>, AllocError>
+    /// All tokens of the bytes are still to be read, with these words.
+    pub(crate) fn new(vocabulary: Vocabulary, bytes: &'a [u8], tokens: &'a [Token]) -> Reader<'a>
         requires { All (IsTokenOf bytes.now) tokens.now }
-        ensures { IfOk result (λ r. r ≡ seen bytes.now tokens.now) }
+        ensures { result ≡ seen_with vocabulary bytes.now tokens.now }
     {
-        Ok(Reader {
+        let next = kind_at(&vocabulary, bytes, tokens, 0);
+        Reader {
+            vocabulary,
             bytes,
             tokens,
-            kinds: kinds_of(alloc, bytes, tokens)?,
             at: 0,
-        })
+            next,
+        }
     }
 
     /// How many tokens are still to be read.
@@ -91,11 +90,7 @@ impl<'a> Reader<'a> {
     pub(crate) fn next_kind(&self) -> Option<u32>
         ensures { result ≡ next_kind self.now }
     {
-        if self.at < self.tokens.len() {
-            Some(self.kinds[self.at])
-        } else {
-            None
-        }
+        self.next
     }
 
     /// The text of the next token.
@@ -126,6 +121,7 @@ impl<'a> Reader<'a> {
     {
         if self.at < self.tokens.len() {
             self.at += 1;
+            self.next = kind_at(&self.vocabulary, self.bytes, self.tokens, self.at);
         }
     }
 
@@ -161,14 +157,25 @@ impl<'a> Reader<'a> {
         }
     }
 
-    /// The next token, which is of one of these kinds. The answer is its kind.
+    /// The next token is a number.
     #[tactic(auto, using(crate::proofs::Left::next))]
-    pub(crate) fn take(&mut self, kinds: &[u32]) -> Result<u32, Stop>
-        ensures exact { Takes result self.old self.new (token_at kind kinds.now self.old) }
+    pub(crate) fn is_number_next(&self) -> bool
+        ensures { result ≡ starts kind numbers self.now }
+    {
+        match self.next_kind() {
+            Some(kind) => is_number(kind),
+            None => false,
+        }
+    }
+
+    /// The next token, which is the name of a rule. The answer is its kind.
+    #[tactic(auto, using(crate::proofs::Left::next))]
+    pub(crate) fn rule(&mut self) -> Result<u32, Stop>
+        ensures exact { Gives result self.new (rule_at self.old) }
         ensures less { OnOk result (length self.new < length self.old) }
     {
         match self.next_kind() {
-            Some(kind) if is_among(kinds, kind) => {
+            Some(kind) if is_rule(kind) => {
                 self.advance();
                 Ok(kind)
             }
@@ -176,19 +183,55 @@ impl<'a> Reader<'a> {
         }
     }
 
-    /// The next token, which is a number.
+    /// Leaves the next token behind where it is of this kind, or says that it isn't.
     #[tactic(auto, using(crate::proofs::Left::next))]
+    pub(crate) fn skips(&mut self, wanted: u32) -> bool
+        ensures { Skips result (wanted ∷ []) self.old self.new }
+    {
+        match self.next_kind() {
+            Some(kind) if kind == wanted => {
+                self.advance();
+                true
+            }
+            _ => false,
+        }
+    }
+
+    /// The next token, which is of this kind.
+    pub(crate) fn take(&mut self, wanted: u32) -> Result<(), Stop>
+        ensures exact { Takes result self.old self.new (token_at kind (wanted ∷ []) self.old) }
+        ensures less { OnOk result (length self.new < length self.old) }
+    {
+        if self.skips(wanted) {
+            Ok(())
+        } else {
+            Err(Stop::Wrong)
+        }
+    }
+
+    /// The next token, which is a number.
     pub(crate) fn number(&mut self) -> Result<u64, Stop>
         ensures exact { Gives result self.new (value_at numbers self.old) }
         ensures less { OnOk result (length self.new < length self.old) }
+    {
+        match self.next_number() {
+            Some(value) => Ok(value),
+            None => Err(Stop::Wrong),
+        }
+    }
+
+    /// The number that is next, which is left behind, or None.
+    #[tactic(auto, using(crate::proofs::Left::next))]
+    pub(crate) fn next_number(&mut self) -> Option<u64>
+        ensures { Finds result numbers self.old self.new (value_at numbers self.old) }
     {
         match self.next_kind() {
             Some(kind) if is_number(kind) => {
                 let value = self.next_value();
                 self.advance();
-                Ok(value)
+                Some(value)
             }
-            _ => Err(Stop::Wrong),
+            _ => None,
         }
     }
 
@@ -237,33 +280,18 @@ impl<'a> Reader<'a> {
         self.advance();
         Ok(name)
     }
-
-    /// The next token is a number.
-    pub(crate) fn is_number_next(&self) -> bool
-        ensures { result ≡ starts kind numbers self.now }
-    {
-        self.is_next(&[ZERO_NUMBER, ONE_NUMBER, OTHER_NUMBER])
-    }
-
-    /// The next token, which is one of these rules. The answer is its place among the 26 rules.
-    pub(crate) fn rule(&mut self, kinds: &[u32]) -> Result<u32, Stop>
-        ensures exact { Gives result self.new (rule_at kinds.now self.old) }
-        ensures less { OnOk result (length self.new < length self.old) }
-    {
-        let kind = self.take(kinds)?;
-        Ok(kind.saturating_sub(HYP_RULE - 1))
-    }
 }
 
-fn kinds_of(alloc: Global, bytes: &[u8], tokens: &[Token]) -> Result<Vec<u32>, AllocError>
+/// The kind of the token at a place, from 0, if there is one.
+fn kind_at(vocabulary: &Vocabulary, bytes: &[u8], tokens: &[Token], at: usize) -> Option<u32>
     requires { All (IsTokenOf bytes.now) tokens.now }
-    ensures { IfOk result (λ kinds. kinds.items ≡ map kind (seen bytes.now tokens.now)) }
+    ensures { result ≡ next_kind (drop at (seen_with vocabulary.now bytes.now tokens.now)) }
 {
-    let mut kinds = Vec::with_capacity(alloc, tokens.len())?;
-    for token in tokens {
-        kinds.push(kind_of(bytes, token))?;
+    if at < tokens.len() {
+        Some(kind_of(vocabulary, bytes, &tokens[at]))
+    } else {
+        None
     }
-    Ok(kinds)
 }
 
 /// The kind is one of these.
@@ -282,7 +310,7 @@ fn is_among(kinds: &[u32], kind: u32) -> bool
 fn is_word(kind: u32) -> bool
     ensures { result ≡ has words kind }
 {
-    OTHER_WORD <= kind && kind <= COMPUTE_RULE
+    OTHER_WORD <= kind && kind <= LAST_NAME
 }
 
 /// The kind is that of a number.
@@ -301,4 +329,11 @@ fn is_type_atom(kind: u32) -> bool
         || kind == BOOL_WORD
         || kind == TYPE_VARIABLE
         || is_word(kind)
+}
+
+/// The kind is that of the name of a rule.
+fn is_rule(kind: u32) -> bool
+    ensures { result ≡ has rules kind }
+{
+    HYP_RULE <= kind && kind <= COMPUTE_RULE
 }

@@ -1,28 +1,27 @@
 //! Terms.
-ghost use Rattle.std.specs.Prelude.{◌≡◌, ◌<◌, ◌≤◌, [], ◌∷◌, length, OnOk};
+ghost use Rattle.std.specs.Prelude.{◌≡◌, ◌<◌, ◌≤◌, length, OnOk};
 ghost use Rattle.tg_rules.specs.Reader.{mapped};
 ghost use Rattle.tg_rules.specs.Repetition.{fold_from};
 ghost use Rattle.tg_grammar.specs.Making.{chained};
-ghost use Rattle.tg_grammar.specs.Parts.{Term, Branch, MoreBranches, Implication, Disjunction, Conjunction, Negation, Comparison, Sum, MoreSummands, Product, MoreFactors, Application, Atom, Atoms, PlainAtom};
+ghost use Rattle.tg_grammar.specs.Page.{conditional, binding, cases, branches, arguments, enclosed, last_atom};
+ghost use Rattle.tg_grammar.specs.Parts.{Term, Branch, Implication, Disjunction, Conjunction, Negation, Comparison, Sum, MoreSummands, Product, MoreFactors, Application, Atom, Atoms, PlainAtom};
 ghost use Rattle.tg_grammar.specs.Reading.{reads};
-ghost use Rattle.tg_grammar.specs.Kinds.{comma, plus, minus, times, div_word, mod_word};
-ghost use Rattle.tg_syntax.specs.Answers.{Gives, behind};
+ghost use Rattle.tg_syntax.specs.Answers.{Gives, by_rule};
 ghost use Rattle.tg_syntax.specs.Modes.{mode_view};
-ghost use Rattle.tg_syntax.specs.TermPieces.{by_rule, operated, conditional, binding, cases, enclosed, last_atom};
 
 use crate::binders::{branch_head, numbered_variable, variable};
-use crate::lists::{in_front, one, three, two};
+use crate::lists::{one, three, two};
 use crate::modes::{Mode, is_atom_next, is_plain_atom_next};
+use crate::operators::{comparison_operator, product_operator, sum_operator};
 use crate::reader::{Reader, Stop};
 use sqlite_items::Items;
 use std::alloc::Global;
 use tg_grammar::kinds::{
-    AND, ARROW, CASE_WORD, CLOSE_BRACE, CLOSE_PAREN, COMMA, DIV_WORD, DOUBLE_ARROW, ELSE_WORD,
-    EQUAL, FALSE_WORD, IF_WORD, IN_WORD, LESS, LESS_EQUAL, LET_WORD, MINUS, MOD_WORD, NOT, OF_WORD,
-    ONE_NUMBER, OPEN_BRACE, OPEN_PAREN, OR, OTHER_NUMBER, PLUS, SUC_WORD, THEN_WORD, TIMES,
-    TRUE_WORD, ZERO_NUMBER,
+    AND, ARROW, CASE_WORD, CLOSE_BRACE, CLOSE_PAREN, COMMA, DOUBLE_ARROW, ELSE_WORD, EQUAL,
+    FALSE_WORD, IF_WORD, IN_WORD, LET_WORD, NOT, OF_WORD, OPEN_BRACE, OPEN_PAREN, OR, SUC_WORD,
+    THEN_WORD, TRUE_WORD,
 };
-use tg_grammar::{RawBranch, RawTerm};
+use tg_grammar::{RawBranch, RawTerm, operators};
 
 /// A conditional, a binding, a case distinction or an implication.
 #[cycle(terms)]
@@ -49,11 +48,11 @@ fn conditional(alloc: Global, mode: Mode, reader: &mut Reader) -> Result<RawTerm
     ensures exact { Gives result reader.new (by_rule (conditional (mode_view mode)) reader.old) }
     ensures less { OnOk result (length reader.new < length reader.old) }
 {
-    reader.take(&[IF_WORD])?;
+    reader.take(IF_WORD)?;
     let condition = term(alloc, mode, reader)?;
-    reader.take(&[THEN_WORD])?;
+    reader.take(THEN_WORD)?;
     let first = term(alloc, mode, reader)?;
-    reader.take(&[ELSE_WORD])?;
+    reader.take(ELSE_WORD)?;
     let second = term(alloc, mode, reader)?;
     Ok(RawTerm::If(three(alloc, condition, first, second)?))
 }
@@ -64,11 +63,11 @@ fn binding(alloc: Global, mode: Mode, reader: &mut Reader) -> Result<RawTerm, St
     ensures exact { Gives result reader.new (by_rule (binding (mode_view mode)) reader.old) }
     ensures less { OnOk result (length reader.new < length reader.old) }
 {
-    reader.take(&[LET_WORD])?;
+    reader.take(LET_WORD)?;
     let binder = variable(alloc, mode, reader)?;
-    reader.take(&[EQUAL])?;
+    reader.take(EQUAL)?;
     let bound = term(alloc, mode, reader)?;
-    reader.take(&[IN_WORD])?;
+    reader.take(IN_WORD)?;
     let body = term(alloc, mode, reader)?;
     Ok(RawTerm::Let(binder, two(alloc, bound, body)?))
 }
@@ -79,14 +78,13 @@ fn cases(alloc: Global, mode: Mode, reader: &mut Reader) -> Result<RawTerm, Stop
     ensures exact { Gives result reader.new (by_rule (cases (mode_view mode)) reader.old) }
     ensures less { OnOk result (length reader.new < length reader.old) }
 {
-    reader.take(&[CASE_WORD])?;
+    reader.take(CASE_WORD)?;
     let subject = term(alloc, mode, reader)?;
-    reader.take(&[OF_WORD])?;
-    reader.take(&[OPEN_BRACE])?;
-    let first = branch(alloc, mode, reader)?;
-    let others = more_branches(alloc, mode, reader)?;
-    reader.take(&[CLOSE_BRACE])?;
-    Ok(RawTerm::Case(one(alloc, subject)?, in_front(alloc, first, others)?))
+    reader.take(OF_WORD)?;
+    reader.take(OPEN_BRACE)?;
+    let branches = branches(alloc, mode, reader)?;
+    reader.take(CLOSE_BRACE)?;
+    Ok(RawTerm::Case(one(alloc, subject)?, branches))
 }
 
 /// A constructor and its variables `=>` term.
@@ -97,33 +95,25 @@ fn branch(alloc: Global, mode: Mode, reader: &mut Reader) -> Result<RawBranch, S
     ensures less { OnOk result (length reader.new < length reader.old) }
 {
     let (con, vars) = branch_head(alloc, mode, reader)?;
-    reader.take(&[DOUBLE_ARROW])?;
+    reader.take(DOUBLE_ARROW)?;
     let body = term(alloc, mode, reader)?;
     Ok(RawBranch { con, vars, body })
 }
 
-/// Branches, each after a comma.
+/// Branches with commas between them.
 #[cycle(terms)]
-#[tactic(auto, using(crate::proofs::TermRepetitions::more_branches_by))]
-fn more_branches(alloc: Global, mode: Mode, reader: &mut Reader) -> Result<Items<RawBranch>, Stop>
-    ensures exact { Gives result reader.new (reads (MoreBranches (mode_view mode)) reader.old) }
-    ensures less { OnOk result (length reader.new ≤ length reader.old) }
-{
-    let mut branches = Items::new(alloc);
-    while reader.is_next(&[COMMA]) {
-        branches.push(branch_after_comma(alloc, mode, reader)?)?;
-    }
-    Ok(branches)
-}
-
-/// A comma and a branch.
-#[cycle(terms)]
-fn branch_after_comma(alloc: Global, mode: Mode, reader: &mut Reader) -> Result<RawBranch, Stop>
-    ensures exact { Gives result reader.new (behind comma (reads (Branch (mode_view mode))) reader.old) }
+#[tactic(auto, using(crate::proofs::TermRepetitions::branches_by))]
+fn branches(alloc: Global, mode: Mode, reader: &mut Reader) -> Result<Items<RawBranch>, Stop>
+    ensures exact { Gives result reader.new (by_rule (branches (mode_view mode)) reader.old) }
     ensures less { OnOk result (length reader.new < length reader.old) }
 {
-    reader.take(&[COMMA])?;
-    branch(alloc, mode, reader)
+    let mut branches = Items::new(alloc);
+    loop {
+        branches.push(branch(alloc, mode, reader)?)?;
+        if !reader.skips(COMMA) {
+            return Ok(branches);
+        }
+    }
 }
 
 /// A disjunction, or a disjunction `-->` implication.
@@ -134,12 +124,11 @@ fn implication(alloc: Global, mode: Mode, reader: &mut Reader) -> Result<RawTerm
     ensures less { OnOk result (length reader.new < length reader.old) }
 {
     let left = disjunction(alloc, mode, reader)?;
-    if !reader.is_next(&[ARROW]) {
+    if !reader.skips(ARROW) {
         return Ok(left);
     }
-    reader.take(&[ARROW])?;
     let right = implication(alloc, mode, reader)?;
-    Ok(RawTerm::Op(ARROW, two(alloc, left, right)?))
+    Ok(RawTerm::Op(operators::IMPLIES, two(alloc, left, right)?))
 }
 
 /// A conjunction, or a conjunction `|` disjunction.
@@ -150,12 +139,11 @@ fn disjunction(alloc: Global, mode: Mode, reader: &mut Reader) -> Result<RawTerm
     ensures less { OnOk result (length reader.new < length reader.old) }
 {
     let left = conjunction(alloc, mode, reader)?;
-    if !reader.is_next(&[OR]) {
+    if !reader.skips(OR) {
         return Ok(left);
     }
-    reader.take(&[OR])?;
     let right = disjunction(alloc, mode, reader)?;
-    Ok(RawTerm::Op(OR, two(alloc, left, right)?))
+    Ok(RawTerm::Op(operators::OR, two(alloc, left, right)?))
 }
 
 /// A negation, or a negation `&` conjunction.
@@ -166,12 +154,11 @@ fn conjunction(alloc: Global, mode: Mode, reader: &mut Reader) -> Result<RawTerm
     ensures less { OnOk result (length reader.new < length reader.old) }
 {
     let left = negation(alloc, mode, reader)?;
-    if !reader.is_next(&[AND]) {
+    if !reader.skips(AND) {
         return Ok(left);
     }
-    reader.take(&[AND])?;
     let right = conjunction(alloc, mode, reader)?;
-    Ok(RawTerm::Op(AND, two(alloc, left, right)?))
+    Ok(RawTerm::Op(operators::AND, two(alloc, left, right)?))
 }
 
 /// `~` negation, or a comparison.
@@ -181,10 +168,9 @@ fn negation(alloc: Global, mode: Mode, reader: &mut Reader) -> Result<RawTerm, S
     ensures exact { Gives result reader.new (reads (Negation (mode_view mode)) reader.old) }
     ensures less { OnOk result (length reader.new < length reader.old) }
 {
-    if reader.is_next(&[NOT]) {
-        reader.take(&[NOT])?;
+    if reader.skips(NOT) {
         let operand = negation(alloc, mode, reader)?;
-        return Ok(RawTerm::Op(NOT, one(alloc, operand)?));
+        return Ok(RawTerm::Op(operators::NOT, one(alloc, operand)?));
     }
     comparison(alloc, mode, reader)
 }
@@ -197,12 +183,13 @@ fn comparison(alloc: Global, mode: Mode, reader: &mut Reader) -> Result<RawTerm,
     ensures less { OnOk result (length reader.new < length reader.old) }
 {
     let left = sum(alloc, mode, reader)?;
-    if !reader.is_next(&[EQUAL, LESS, LESS_EQUAL]) {
-        return Ok(left);
+    match comparison_operator(reader) {
+        Some(operator) => {
+            let right = sum(alloc, mode, reader)?;
+            Ok(RawTerm::Op(operator, two(alloc, left, right)?))
+        }
+        None => Ok(left),
     }
-    let operator = reader.take(&[EQUAL, LESS, LESS_EQUAL])?;
-    let right = sum(alloc, mode, reader)?;
-    Ok(RawTerm::Op(operator, two(alloc, left, right)?))
 }
 
 /// Products with `+` or `-` between them, grouped to the left.
@@ -229,19 +216,24 @@ fn more_summands(
     ensures less { OnOk result (length reader.new ≤ length reader.old) }
 {
     let mut sum = first;
-    while reader.is_next(&[PLUS, MINUS]) {
-        sum = summand(alloc, mode, reader, sum)?;
+    while let Some(operator) = sum_operator(reader) {
+        sum = summand(alloc, mode, reader, operator, sum)?;
     }
     Ok(sum)
 }
 
-/// `+` or `-` and a product, which is added to a sum.
+/// A product, which is joined to a sum by an operator.
 #[cycle(terms)]
-fn summand(alloc: Global, mode: Mode, reader: &mut Reader, left: RawTerm) -> Result<RawTerm, Stop>
-    ensures exact { Gives result reader.new (mapped (chained left) (operated (plus ∷ minus ∷ []) (reads (Product (mode_view mode))) reader.old)) }
+fn summand(
+    alloc: Global,
+    mode: Mode,
+    reader: &mut Reader,
+    operator: u32,
+    left: RawTerm,
+) -> Result<RawTerm, Stop>
+    ensures exact { Gives result reader.new (mapped (λ right. chained left (operator, right)) (reads (Product (mode_view mode)) reader.old)) }
     ensures less { OnOk result (length reader.new < length reader.old) }
 {
-    let operator = reader.take(&[PLUS, MINUS])?;
     let right = product(alloc, mode, reader)?;
     Ok(RawTerm::Op(operator, two(alloc, left, right)?))
 }
@@ -270,19 +262,24 @@ fn more_factors(
     ensures less { OnOk result (length reader.new ≤ length reader.old) }
 {
     let mut product = first;
-    while reader.is_next(&[TIMES, DIV_WORD, MOD_WORD]) {
-        product = factor(alloc, mode, reader, product)?;
+    while let Some(operator) = product_operator(reader) {
+        product = factor(alloc, mode, reader, operator, product)?;
     }
     Ok(product)
 }
 
-/// `*`, `div` or `mod` and an application, which is added to a product.
+/// An application, which is joined to a product by an operator.
 #[cycle(terms)]
-fn factor(alloc: Global, mode: Mode, reader: &mut Reader, left: RawTerm) -> Result<RawTerm, Stop>
-    ensures exact { Gives result reader.new (mapped (chained left) (operated (times ∷ div_word ∷ mod_word ∷ []) (reads (Application (mode_view mode))) reader.old)) }
+fn factor(
+    alloc: Global,
+    mode: Mode,
+    reader: &mut Reader,
+    operator: u32,
+    left: RawTerm,
+) -> Result<RawTerm, Stop>
+    ensures exact { Gives result reader.new (mapped (λ right. chained left (operator, right)) (reads (Application (mode_view mode)) reader.old)) }
     ensures less { OnOk result (length reader.new < length reader.old) }
 {
-    let operator = reader.take(&[TIMES, DIV_WORD, MOD_WORD])?;
     let right = application(alloc, mode, reader)?;
     Ok(RawTerm::Op(operator, two(alloc, left, right)?))
 }
@@ -294,11 +291,8 @@ fn application(alloc: Global, mode: Mode, reader: &mut Reader) -> Result<RawTerm
     ensures exact { Gives result reader.new (reads (Application (mode_view mode)) reader.old) }
     ensures less { OnOk result (length reader.new < length reader.old) }
 {
-    if reader.is_next(&[SUC_WORD]) {
-        reader.take(&[SUC_WORD])?;
-        let first = atom(alloc, mode, reader)?;
-        let others = atoms(alloc, mode, reader)?;
-        return Ok(RawTerm::Op(SUC_WORD, in_front(alloc, first, others)?));
+    if reader.skips(SUC_WORD) {
+        return Ok(RawTerm::Op(operators::SUC, arguments(alloc, mode, reader)?));
     }
     if is_plain_atom_next(mode, reader) {
         return plain_atom(alloc, mode, reader);
@@ -327,11 +321,30 @@ pub(crate) fn atoms(alloc: Global, mode: Mode, reader: &mut Reader) -> Result<It
     ensures exact { Gives result reader.new (reads (Atoms (mode_view mode)) reader.old) }
     ensures less { OnOk result (length reader.new ≤ length reader.old) }
 {
-    let mut atoms = Items::new(alloc);
-    while is_atom_next(mode, reader) {
-        atoms.push(atom(alloc, mode, reader)?)?;
+    if !is_atom_next(mode, reader) {
+        return Ok(Items::new(alloc));
     }
-    Ok(atoms)
+    arguments(alloc, mode, reader)
+}
+
+/// One atom or more.
+#[cycle(terms)]
+#[tactic(auto, using(crate::proofs::TermRepetitions::arguments_by))]
+pub(crate) fn arguments(
+    alloc: Global,
+    mode: Mode,
+    reader: &mut Reader,
+) -> Result<Items<RawTerm>, Stop>
+    ensures exact { Gives result reader.new (by_rule (arguments (mode_view mode)) reader.old) }
+    ensures less { OnOk result (length reader.new < length reader.old) }
+{
+    let mut arguments = Items::new(alloc);
+    loop {
+        arguments.push(atom(alloc, mode, reader)?)?;
+        if !is_atom_next(mode, reader) {
+            return Ok(arguments);
+        }
+    }
 }
 
 /// A number, `True`, `False`, a term in brackets, or in a certificate a numbered variable.
@@ -341,15 +354,13 @@ fn plain_atom(alloc: Global, mode: Mode, reader: &mut Reader) -> Result<RawTerm,
     ensures exact { Gives result reader.new (reads (PlainAtom (mode_view mode)) reader.old) }
     ensures less { OnOk result (length reader.new < length reader.old) }
 {
-    if reader.is_next(&[ZERO_NUMBER, ONE_NUMBER, OTHER_NUMBER]) {
-        return Ok(RawTerm::Num(reader.number()?));
+    if let Some(number) = reader.next_number() {
+        return Ok(RawTerm::Num(number));
     }
-    if reader.is_next(&[TRUE_WORD]) {
-        reader.take(&[TRUE_WORD])?;
+    if reader.skips(TRUE_WORD) {
         return Ok(RawTerm::Truth(true));
     }
-    if reader.is_next(&[FALSE_WORD]) {
-        reader.take(&[FALSE_WORD])?;
+    if reader.skips(FALSE_WORD) {
         return Ok(RawTerm::Truth(false));
     }
     last_atom(alloc, mode, reader)
@@ -378,8 +389,8 @@ fn enclosed(alloc: Global, mode: Mode, reader: &mut Reader) -> Result<RawTerm, S
     ensures exact { Gives result reader.new (by_rule (enclosed (mode_view mode)) reader.old) }
     ensures less { OnOk result (length reader.new < length reader.old) }
 {
-    reader.take(&[OPEN_PAREN])?;
+    reader.take(OPEN_PAREN)?;
     let inner = term(alloc, mode, reader)?;
-    reader.take(&[CLOSE_PAREN])?;
+    reader.take(CLOSE_PAREN)?;
     Ok(inner)
 }

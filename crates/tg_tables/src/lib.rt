@@ -12,5 +12,5 @@ mod word_list;
 
 pub use row::Row;
 pub use symbol_list::{SYMBOL_COUNT, SYMBOL_ROWS, symbols};
-pub use table::Table;
+pub use table::{Table, find_row};
 pub use word_list::{RESERVED_COUNT, RESERVED_ROWS, reserved};

@@ -55,7 +55,7 @@ impl<'a, const N: usize> Table<'a, N> {
         ensures exact { (i : ℕ) → (result ≡ Some i) ↔ (slice_get (names self.now) i ≡ Some name.now) }
         ensures within { IfSome result (λ i. i < N) }
     {
-        search(self.rows, name)
+        find_row(self.rows, name)
     }
 
     /// The row at a place, from 0.
@@ -74,8 +74,9 @@ fn row_at(rows: &[Row], i: usize) -> &Row
     &rows[i]
 }
 
-// Halves the range in which the name can stand.
-fn search(rows: &[Row], name: &[u8]) -> Option<usize>
+/// The place, from 0, of the row that has this name, among rows whose names rise strictly by bytes. `None`
+/// exactly where no row has it. It halves the range in which the name can stand.
+pub fn find_row(rows: &[Row], name: &[u8]) -> Option<usize>
     requires { Rises (names (entries_of rows.now)) }
     ensures exact { (i : ℕ) → (result ≡ Some i) ↔ (slice_get (names (entries_of rows.now)) i ≡ Some name.now) }
     ensures within { IfSome result (λ i. i < length rows.now) }

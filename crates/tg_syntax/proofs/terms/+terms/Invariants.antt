@@ -1,13 +1,15 @@
 use Rattle.std.proofs.Common.{◌+◌, ◌*◌, ◌≡◌, ◌≤◌, length}
 use Rattle.tg_rules.specs.Repetition.{with_front, fold_from}
 use Rattle.tg_grammar.specs.Making.{chained}
-use Rattle.tg_grammar.specs.Parts.{MoreBranches, MoreSummands, MoreFactors, Atoms}
+use Rattle.tg_grammar.specs.Page.{branches, arguments}
+use Rattle.tg_grammar.specs.Parts.{MoreSummands, MoreFactors}
 use Rattle.tg_grammar.specs.Reading.{reads}
+use Rattle.tg_syntax.specs.Answers.{by_rule}
 use Rattle.tg_syntax.specs.Modes.{mode_view}
 use Rattle.tg_syntax.proofs.terms.+terms.Given as goal
 
 abbrev pub decreases-term : goal.decreases-term
-decreases-term l = 16 * length l.reader.now + 13
+decreases-term l = 16 * length l.reader.now + 14
 
 abbrev pub decreases-conditional : goal.decreases-conditional
 decreases-conditional l = 16 * length l.reader.now
@@ -21,53 +23,53 @@ decreases-cases l = 16 * length l.reader.now
 abbrev pub decreases-branch : goal.decreases-branch
 decreases-branch l = 16 * length l.reader.now
 
-abbrev pub decreases-more_branches : goal.decreases-more_branches
-decreases-more_branches l = 16 * length l.reader.now + 2
-
-abbrev pub decreases-branch_after_comma : goal.decreases-branch_after_comma
-decreases-branch_after_comma l = 16 * length l.reader.now + 1
+abbrev pub decreases-branches : goal.decreases-branches
+decreases-branches l = 16 * length l.reader.now + 1
 
 abbrev pub decreases-implication : goal.decreases-implication
-decreases-implication l = 16 * length l.reader.now + 12
+decreases-implication l = 16 * length l.reader.now + 13
 
 abbrev pub decreases-disjunction : goal.decreases-disjunction
-decreases-disjunction l = 16 * length l.reader.now + 11
+decreases-disjunction l = 16 * length l.reader.now + 12
 
 abbrev pub decreases-conjunction : goal.decreases-conjunction
-decreases-conjunction l = 16 * length l.reader.now + 10
+decreases-conjunction l = 16 * length l.reader.now + 11
 
 abbrev pub decreases-negation : goal.decreases-negation
-decreases-negation l = 16 * length l.reader.now + 9
+decreases-negation l = 16 * length l.reader.now + 10
 
 abbrev pub decreases-comparison : goal.decreases-comparison
-decreases-comparison l = 16 * length l.reader.now + 8
+decreases-comparison l = 16 * length l.reader.now + 9
 
 abbrev pub decreases-sum : goal.decreases-sum
-decreases-sum l = 16 * length l.reader.now + 7
+decreases-sum l = 16 * length l.reader.now + 8
 
 abbrev pub decreases-more_summands : goal.decreases-more_summands
-decreases-more_summands l = 16 * length l.reader.now + 2
+decreases-more_summands l = 16 * length l.reader.now + 9
 
 abbrev pub decreases-summand : goal.decreases-summand
-decreases-summand l = 16 * length l.reader.now + 1
+decreases-summand l = 16 * length l.reader.now + 8
 
 abbrev pub decreases-product : goal.decreases-product
-decreases-product l = 16 * length l.reader.now + 6
+decreases-product l = 16 * length l.reader.now + 7
 
 abbrev pub decreases-more_factors : goal.decreases-more_factors
-decreases-more_factors l = 16 * length l.reader.now + 2
+decreases-more_factors l = 16 * length l.reader.now + 8
 
 abbrev pub decreases-factor : goal.decreases-factor
-decreases-factor l = 16 * length l.reader.now + 1
+decreases-factor l = 16 * length l.reader.now + 7
 
 abbrev pub decreases-application : goal.decreases-application
-decreases-application l = 16 * length l.reader.now + 5
+decreases-application l = 16 * length l.reader.now + 6
 
 abbrev pub decreases-atom : goal.decreases-atom
 decreases-atom l = 16 * length l.reader.now + 3
 
 abbrev pub decreases-atoms : goal.decreases-atoms
-decreases-atoms l = 16 * length l.reader.now + 4
+decreases-atoms l = 16 * length l.reader.now + 5
+
+abbrev pub decreases-arguments : goal.decreases-arguments
+decreases-arguments l = 16 * length l.reader.now + 4
 
 abbrev pub decreases-plain_atom : goal.decreases-plain_atom
 decreases-plain_atom l = 16 * length l.reader.now + 2
@@ -78,38 +80,38 @@ decreases-last_atom l = 16 * length l.reader.now + 1
 abbrev pub decreases-enclosed : goal.decreases-enclosed
 decreases-enclosed l = 16 * length l.reader.now
 
-abbrev pub invariant-more_branches-loop-alloc : goal.invariant-more_branches-loop-alloc
-invariant-more_branches-loop-alloc l = record {
-  so_far : with_front l.branches (reads (MoreBranches (mode_view l.mode)) l.reader) ≡ reads (MoreBranches (mode_view l.mode)) l.fn.reader;
+abbrev pub invariant-branches-loop-branches : goal.invariant-branches-loop-branches
+invariant-branches-loop-branches l = record {
+  so_far : with_front l.branches (by_rule (branches (mode_view l.mode)) l.reader) ≡ by_rule (branches (mode_view l.mode)) l.fn.reader;
   shorter : length l.reader ≤ length l.fn.reader;
 }
 
-abbrev pub decreases-more_branches-loop-alloc : goal.decreases-more_branches-loop-alloc
-decreases-more_branches-loop-alloc l = length l.reader
+abbrev pub decreases-branches-loop-branches : goal.decreases-branches-loop-branches
+decreases-branches-loop-branches l = length l.reader
 
-abbrev pub invariant-atoms-loop-alloc : goal.invariant-atoms-loop-alloc
-invariant-atoms-loop-alloc l = record {
-  so_far : with_front l.atoms (reads (Atoms (mode_view l.mode)) l.reader) ≡ reads (Atoms (mode_view l.mode)) l.fn.reader;
+abbrev pub invariant-arguments-loop-arguments : goal.invariant-arguments-loop-arguments
+invariant-arguments-loop-arguments l = record {
+  so_far : with_front l.arguments (by_rule (arguments (mode_view l.mode)) l.reader) ≡ by_rule (arguments (mode_view l.mode)) l.fn.reader;
   shorter : length l.reader ≤ length l.fn.reader;
 }
 
-abbrev pub decreases-atoms-loop-alloc : goal.decreases-atoms-loop-alloc
-decreases-atoms-loop-alloc l = length l.reader
+abbrev pub decreases-arguments-loop-arguments : goal.decreases-arguments-loop-arguments
+decreases-arguments-loop-arguments l = length l.reader
 
-abbrev pub invariant-more_summands-loop-alloc : goal.invariant-more_summands-loop-alloc
-invariant-more_summands-loop-alloc l = record {
+abbrev pub invariant-more_summands-loop-operator : goal.invariant-more_summands-loop-operator
+invariant-more_summands-loop-operator l = record {
   so_far : fold_from chained l.sum (reads (MoreSummands (mode_view l.mode)) l.reader) ≡ fold_from chained l.fn.first (reads (MoreSummands (mode_view l.mode)) l.fn.reader);
   shorter : length l.reader ≤ length l.fn.reader;
 }
 
-abbrev pub decreases-more_summands-loop-alloc : goal.decreases-more_summands-loop-alloc
-decreases-more_summands-loop-alloc l = length l.reader
+abbrev pub decreases-more_summands-loop-operator : goal.decreases-more_summands-loop-operator
+decreases-more_summands-loop-operator l = length l.reader
 
-abbrev pub invariant-more_factors-loop-alloc : goal.invariant-more_factors-loop-alloc
-invariant-more_factors-loop-alloc l = record {
+abbrev pub invariant-more_factors-loop-operator : goal.invariant-more_factors-loop-operator
+invariant-more_factors-loop-operator l = record {
   so_far : fold_from chained l.product (reads (MoreFactors (mode_view l.mode)) l.reader) ≡ fold_from chained l.fn.first (reads (MoreFactors (mode_view l.mode)) l.fn.reader);
   shorter : length l.reader ≤ length l.fn.reader;
 }
 
-abbrev pub decreases-more_factors-loop-alloc : goal.decreases-more_factors-loop-alloc
-decreases-more_factors-loop-alloc l = length l.reader
+abbrev pub decreases-more_factors-loop-operator : goal.decreases-more_factors-loop-operator
+decreases-more_factors-loop-operator l = length l.reader
