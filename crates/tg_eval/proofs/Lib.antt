@@ -1,0 +1,3 @@
+pub mod LimitedAgrees
+pub mod Laws
+pub mod KnownLimits

@@ -1,0 +1,13 @@
+//! The limited value of a term: call by value, within bounds. It is defined in `specs/Limited.antt`; the
+//! functions here have no code, and their contracts are the laws.
+#![tactic(auto)]
+
+ghost use Rattle.tg_eval.specs.Laws.{LimitedIsValue, LimitedWithoutCalls};
+
+/// In an accepted theory, where a typed term has a limited value, this is its value: on every table that
+/// lists the inputs of all its program calls with the answer that the limited value takes for them, and on
+/// every table where it has no program call.
+pub fn limited_is_value()
+    ensures listed { LimitedIsValue }
+    ensures no_calls { LimitedWithoutCalls }
+{}
