@@ -2,6 +2,7 @@ pub mod Compared
 pub mod MatchLaws
 pub mod MeasureLaws
 pub mod PartLaws
+pub mod Places
 pub mod Substituted
 pub mod Unmoved
 pub mod ValueLists

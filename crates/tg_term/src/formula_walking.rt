@@ -1,6 +1,6 @@
 //! The walk over formulas, and substitution, instantiation, abstraction and closing in them. A part in
 //! which nothing is replaced is handed on as it is.
-ghost use Rattle.std.specs.Prelude.{◌≡◌, IfOk, Some, unwrap_or};
+ghost use Rattle.std.specs.Prelude.{◌≡◌, IfOk, OnOk, Some, unwrap_or};
 ghost use Rattle.tg_model.specs.Closing.{closed};
 ghost use Rattle.tg_model.specs.Formula.{atom, both, implies, all, some, thyp, tested, deep};
 ghost use Rattle.tg_model.specs.Tree.{trees};
@@ -21,7 +21,7 @@ use tg_types::{Ty, copy};
 pub fn subst_formula(alloc: Global, f: &Formula, vars: &[Term]) -> Result<Formula, AllocError>
     ensures { IfOk result (λ g. IsSubstitutedFormula vars.now f.now g) }
 {
-    let walked = walk_formula_at(alloc, &Terms { terms: vars }, f, 0)?;
+    let walked = walk_formula_at(alloc, &mut Terms::new(alloc, vars)?, f, 0)?;
     formula_or_shared(f, walked)
 }
 
@@ -35,7 +35,7 @@ pub fn instantiate_formula(
 ) -> Result<Formula, AllocError>
     ensures { IfOk result (λ g. IsInstantiatedFormula args.now body.now g) }
 {
-    let walked = walk_formula_at(alloc, &Arguments { terms: args }, body, 0)?;
+    let walked = walk_formula_at(alloc, &mut Arguments::new(alloc, args)?, body, 0)?;
     formula_or_shared(body, walked)
 }
 
@@ -44,7 +44,7 @@ pub fn instantiate_formula(
 pub fn abstract_formula(alloc: Global, f: &Formula, n: u32) -> Result<Formula, AllocError>
     ensures { IfOk result (λ g. IsAbstractedFormula n f.now g) }
 {
-    let walked = walk_formula_at(alloc, &Abstraction { number: n }, f, 0)?;
+    let walked = walk_formula_at(alloc, &mut Abstraction { number: n }, f, 0)?;
     formula_or_shared(f, walked)
 }
 
@@ -54,7 +54,7 @@ pub fn abstract_formula(alloc: Global, f: &Formula, n: u32) -> Result<Formula, A
 pub fn close_formula(alloc: Global, f: &Formula, count: u32) -> Result<Formula, AllocError>
     ensures { IfOk result (λ g. g ≡ closed count f.now) }
 {
-    let walked = walk_formula_at(alloc, &Closing { count }, f, 0)?;
+    let walked = walk_formula_at(alloc, &mut Closing { count }, f, 0)?;
     formula_or_shared(f, walked)
 }
 
@@ -62,11 +62,12 @@ pub fn close_formula(alloc: Global, f: &Formula, count: u32) -> Result<Formula, 
 #[cycle(walk_formula)]
 fn walk_formula_at<R: Replace>(
     alloc: Global,
-    r: &R,
+    r: &mut R,
     f: &Formula,
     depth: u64,
 ) -> Result<Option<Formula>, AllocError>
-    ensures { IfOk result (λ o. unwrap_or o f.now ≡ walk_formula (R.on_bound r.now) (R.on_free r.now) depth f.now) }
+    ensures exact { IfOk result (λ o. unwrap_or o f.now ≡ walk_formula (R.on_bound r.old) (R.on_free r.old) depth f.now) }
+    ensures kept { OnOk result (r.new ≡ r.old) }
 {
     if r.leaves(f.loose_range(), depth) {
         return Ok(None);
@@ -106,11 +107,12 @@ fn walk_formula_at<R: Replace>(
 #[inline(never)]
 fn walk_atom<R: Replace>(
     alloc: Global,
-    r: &R,
+    r: &mut R,
     t: &Term,
     depth: u64,
 ) -> Result<Option<Formula>, AllocError>
-    ensures { IfOk result (λ o. unwrap_or o (atom t.now) ≡ atom (walk (R.on_bound r.now) (R.on_free r.now) depth t.now)) }
+    ensures exact { IfOk result (λ o. unwrap_or o (atom t.now) ≡ atom (walk (R.on_bound r.old) (R.on_free r.old) depth t.now)) }
+    ensures kept { OnOk result (r.new ≡ r.old) }
 {
     match walk_at(alloc, r, t, depth)? {
         Some(t) => made(alloc, FormulaNode::Atom(t)),
@@ -121,11 +123,12 @@ fn walk_atom<R: Replace>(
 #[inline(never)]
 fn walk_tested<R: Replace>(
     alloc: Global,
-    r: &R,
+    r: &mut R,
     ts: &[Term],
     depth: u64,
 ) -> Result<Option<Formula>, AllocError>
-    ensures { IfOk result (λ o. unwrap_or o (tested (trees ts.now)) ≡ tested (walk_all (R.on_bound r.now) (R.on_free r.now) depth (trees ts.now))) }
+    ensures exact { IfOk result (λ o. unwrap_or o (tested (trees ts.now)) ≡ tested (walk_all (R.on_bound r.old) (R.on_free r.old) depth (trees ts.now))) }
+    ensures kept { OnOk result (r.new ≡ r.old) }
 {
     match walk_list(alloc, r, ts, depth)? {
         Some(us) => made(alloc, FormulaNode::Tested(us)),
@@ -136,12 +139,13 @@ fn walk_tested<R: Replace>(
 #[inline(never)]
 fn walk_deep<R: Replace>(
     alloc: Global,
-    r: &R,
+    r: &mut R,
     k: u64,
     ts: &[Term],
     depth: u64,
 ) -> Result<Option<Formula>, AllocError>
-    ensures { IfOk result (λ o. unwrap_or o (deep k (trees ts.now)) ≡ deep k (walk_all (R.on_bound r.now) (R.on_free r.now) depth (trees ts.now))) }
+    ensures exact { IfOk result (λ o. unwrap_or o (deep k (trees ts.now)) ≡ deep k (walk_all (R.on_bound r.old) (R.on_free r.old) depth (trees ts.now))) }
+    ensures kept { OnOk result (r.new ≡ r.old) }
 {
     match walk_list(alloc, r, ts, depth)? {
         Some(us) => made(alloc, FormulaNode::Deep(k, us)),

@@ -6,6 +6,7 @@ mod comparing;
 mod filling;
 mod formula_walking;
 mod formulas;
+mod lifted;
 mod measuring;
 mod parts;
 mod substituting;

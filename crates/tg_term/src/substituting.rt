@@ -1,11 +1,11 @@
 //! Lifting, substitution, instantiation and abstraction of terms, each an instance of the walk. A
 //! variable's number that would pass 2^32, or binders nested beyond 2^64, are answered as want of memory.
-ghost use Rattle.std.specs.Prelude.{◌≡◌, ◌+◌, IfOk, unwrap_or, option_copied, slice_get, reverse};
-ghost use Rattle.tg_model.specs.Theory.{numbered};
+ghost use Rattle.std.specs.Prelude.{◌≡◌, ◌+◌, IfOk, unwrap_or};
 ghost use Rattle.tg_model.specs.Tree.{bound};
 ghost use Rattle.tg_model.specs.Walk.{walk, lifted};
 ghost use Rattle.tg_term.specs.Substituting.{IsLifted, IsSubstituted, IsInstantiated, IsAbstracted};
 
+use crate::lifted::LiftedTerms;
 use crate::terms::{Node, Term};
 use crate::walking::{Replace, or_shared, walk_at};
 use std::alloc::{AllocError, Global};
@@ -24,7 +24,7 @@ pub fn lift(alloc: Global, t: &Term, by: u32) -> Result<Term, AllocError>
 pub fn subst(alloc: Global, t: &Term, vars: &[Term]) -> Result<Term, AllocError>
     ensures { IfOk result (λ u. IsSubstituted vars.now t.now u) }
 {
-    let walked = walk_at(alloc, &Terms { terms: vars }, t, 0)?;
+    let walked = walk_at(alloc, &mut Terms::new(alloc, vars)?, t, 0)?;
     or_shared(t, walked)
 }
 
@@ -34,7 +34,7 @@ pub fn subst(alloc: Global, t: &Term, vars: &[Term]) -> Result<Term, AllocError>
 pub fn instantiate(alloc: Global, body: &Term, args: &[Term]) -> Result<Term, AllocError>
     ensures { IfOk result (λ u. IsInstantiated args.now body.now u) }
 {
-    let walked = walk_at(alloc, &Arguments { terms: args }, body, 0)?;
+    let walked = walk_at(alloc, &mut Arguments::new(alloc, args)?, body, 0)?;
     or_shared(body, walked)
 }
 
@@ -43,7 +43,7 @@ pub fn instantiate(alloc: Global, body: &Term, args: &[Term]) -> Result<Term, Al
 pub fn abstract_var(alloc: Global, t: &Term, n: u32) -> Result<Term, AllocError>
     ensures { IfOk result (λ u. IsAbstracted n t.now u) }
 {
-    let walked = walk_at(alloc, &Abstraction { number: n }, t, 0)?;
+    let walked = walk_at(alloc, &mut Abstraction { number: n }, t, 0)?;
     or_shared(t, walked)
 }
 
@@ -55,7 +55,7 @@ pub(crate) fn lift_over(alloc: Global, t: &Term, by: u64) -> Result<Term, AllocE
     if by == 0 {
         return t.share();
     }
-    let walked = walk_at(alloc, &Lifting { by }, t, 0)?;
+    let walked = walk_at(alloc, &mut Lifting { by }, t, 0)?;
     or_shared(t, walked)
 }
 
@@ -90,7 +90,12 @@ impl Replace for Lifting {
 
     ghost on_free = { λ _. as_free };
 
-    fn for_bound(&self, alloc: Global, depth: u64, index: u32) -> Result<Option<Term>, AllocError> {
+    fn for_bound(
+        &mut self,
+        alloc: Global,
+        depth: u64,
+        index: u32,
+    ) -> Result<Option<Term>, AllocError> {
         let is_loose = depth <= u64::from(index);
         if is_loose {
             raise(alloc, index, self.by)
@@ -100,7 +105,7 @@ impl Replace for Lifting {
     }
 
     fn for_free(
-        &self,
+        &mut self,
         _alloc: Global,
         _depth: u64,
         _number: u32,
@@ -115,9 +120,19 @@ impl Replace for Lifting {
 }
 
 /// The terms that stand for free variables.
-#[derive(Clone, Copy, Debug)]
+#[derive(Debug, Drop)]
 pub(crate) struct Terms<'a> {
-    pub(crate) terms: &'a [Term],
+    terms: LiftedTerms<'a>,
+}
+
+impl<'a> Terms<'a> {
+    pub(crate) fn new(alloc: Global, terms: &'a [Term]) -> Result<Terms<'a>, AllocError>
+        ensures { IfOk result (λ s. s.terms ≡ terms.now) }
+    {
+        Ok(Terms {
+            terms: LiftedTerms::new(alloc, terms)?,
+        })
+    }
 }
 
 impl Replace for Terms<'_> {
@@ -125,10 +140,10 @@ impl Replace for Terms<'_> {
 
     ghost on_bound = { λ _. as_bound };
 
-    ghost on_free = { λ s. given s.terms.now };
+    ghost on_free = { λ s. given s.terms };
 
     fn for_bound(
-        &self,
+        &mut self,
         _alloc: Global,
         _depth: u64,
         _index: u32,
@@ -136,9 +151,14 @@ impl Replace for Terms<'_> {
         Ok(None)
     }
 
-    fn for_free(&self, alloc: Global, depth: u64, number: u32) -> Result<Option<Term>, AllocError> {
-        match numbered(self.terms, number) {
-            Some(u) => Ok(Some(lift_over(alloc, u, depth)?)),
+    fn for_free(
+        &mut self,
+        alloc: Global,
+        depth: u64,
+        number: u32,
+    ) -> Result<Option<Term>, AllocError> {
+        match self.terms.numbered(alloc, number, depth)? {
+            Some(u) => Ok(Some(u)),
             None => Ok(Some(Term::new(alloc, Node::Truth(false))?)),
         }
     }
@@ -148,34 +168,39 @@ impl Replace for Terms<'_> {
     }
 }
 
-/// The item of a number, from 1.
-fn numbered(terms: &[Term], number: u32) -> Option<&Term>
-    ensures { option_copied result ≡ numbered terms.now number }
-{
-    match (number as usize).checked_sub(1) {
-        Some(at) => terms.get(at),
-        None => None,
-    }
+/// The terms that stand for the innermost loose bound variables.
+#[derive(Debug, Drop)]
+pub(crate) struct Arguments<'a> {
+    terms: LiftedTerms<'a>,
 }
 
-/// The terms that stand for the innermost loose bound variables.
-#[derive(Clone, Copy, Debug)]
-pub(crate) struct Arguments<'a> {
-    pub(crate) terms: &'a [Term],
+impl<'a> Arguments<'a> {
+    pub(crate) fn new(alloc: Global, terms: &'a [Term]) -> Result<Arguments<'a>, AllocError>
+        ensures { IfOk result (λ s. s.terms ≡ terms.now) }
+    {
+        Ok(Arguments {
+            terms: LiftedTerms::new(alloc, terms)?,
+        })
+    }
 }
 
 impl Replace for Arguments<'_> {
     ghost use Rattle.tg_model.specs.Walk.{as_free, filled};
 
-    ghost on_bound = { λ s. filled s.terms.now };
+    ghost on_bound = { λ s. filled s.terms };
 
     ghost on_free = { λ _. as_free };
 
-    fn for_bound(&self, alloc: Global, depth: u64, index: u32) -> Result<Option<Term>, AllocError> {
+    fn for_bound(
+        &mut self,
+        alloc: Global,
+        depth: u64,
+        index: u32,
+    ) -> Result<Option<Term>, AllocError> {
         match u64::from(index).checked_sub(depth) {
             None => Ok(None),
-            Some(loose) => match from_the_end(self.terms, loose) {
-                Some(u) => Ok(Some(lift_over(alloc, u, depth)?)),
+            Some(loose) => match self.terms.from_the_end(alloc, loose, depth)? {
+                Some(u) => Ok(Some(u)),
                 None => bound_variable(
                     alloc,
                     u64::from(index).saturating_sub(self.terms.len() as u64),
@@ -185,7 +210,7 @@ impl Replace for Arguments<'_> {
     }
 
     fn for_free(
-        &self,
+        &mut self,
         _alloc: Global,
         _depth: u64,
         _number: u32,
@@ -196,19 +221,6 @@ impl Replace for Arguments<'_> {
     #[tactic(auto, using(crate::proofs::Unmoved::left))]
     fn leaves(&self, range: u64, depth: u64) -> bool {
         range <= depth
-    }
-}
-
-/// The item of a place counted from the end, from 0.
-fn from_the_end(terms: &[Term], place: u64) -> Option<&Term>
-    ensures { option_copied result ≡ slice_get (reverse terms.now) place }
-{
-    match terms.len().checked_sub(1) {
-        None => None,
-        Some(last) => match last.checked_sub(place as usize) {
-            Some(at) => terms.get(at),
-            None => None,
-        },
     }
 }
 
@@ -225,7 +237,12 @@ impl Replace for Abstraction {
 
     ghost on_free = { λ s. bound_for s.number };
 
-    fn for_bound(&self, alloc: Global, depth: u64, index: u32) -> Result<Option<Term>, AllocError> {
+    fn for_bound(
+        &mut self,
+        alloc: Global,
+        depth: u64,
+        index: u32,
+    ) -> Result<Option<Term>, AllocError> {
         if u64::from(index) < depth {
             Ok(None)
         } else {
@@ -233,7 +250,12 @@ impl Replace for Abstraction {
         }
     }
 
-    fn for_free(&self, alloc: Global, depth: u64, number: u32) -> Result<Option<Term>, AllocError> {
+    fn for_free(
+        &mut self,
+        alloc: Global,
+        depth: u64,
+        number: u32,
+    ) -> Result<Option<Term>, AllocError> {
         if number == self.number {
             bound_variable(alloc, depth)
         } else {
@@ -260,7 +282,12 @@ impl Replace for Closing {
 
     ghost on_free = { λ s. bound_among s.count };
 
-    fn for_bound(&self, alloc: Global, depth: u64, index: u32) -> Result<Option<Term>, AllocError> {
+    fn for_bound(
+        &mut self,
+        alloc: Global,
+        depth: u64,
+        index: u32,
+    ) -> Result<Option<Term>, AllocError> {
         if u64::from(index) < depth {
             Ok(None)
         } else {
@@ -268,7 +295,12 @@ impl Replace for Closing {
         }
     }
 
-    fn for_free(&self, alloc: Global, depth: u64, number: u32) -> Result<Option<Term>, AllocError> {
+    fn for_free(
+        &mut self,
+        alloc: Global,
+        depth: u64,
+        number: u32,
+    ) -> Result<Option<Term>, AllocError> {
         if number == 0 || self.count < number {
             return Ok(None);
         }

@@ -1,6 +1,6 @@
 //! One walk over terms and formulas, of which lifting, substitution, instantiation and abstraction are
 //! instances. A part in which nothing is replaced is handed on as it is.
-ghost use Rattle.std.specs.Prelude.{◌≡◌, ◌≤◌, ◌+◌, IfOk, IsTrue, unwrap_or};
+ghost use Rattle.std.specs.Prelude.{◌≡◌, ◌≤◌, ◌+◌, IfOk, OnOk, IsTrue, unwrap_or};
 ghost use Rattle.tg_model.specs.Tree.{bound, free, trees};
 ghost use Rattle.tg_model.specs.Walk.{walk, walk_all, walk_formula};
 ghost use Rattle.tg_term.specs.FormulaMeasures.{formula_range};
@@ -21,11 +21,23 @@ pub(crate) trait Replace {
 
     ghost on_free: { Self → ℕ → ℕ → Tree };
 
-    fn for_bound(&self, alloc: Global, depth: u64, index: u32) -> Result<Option<Term>, AllocError>
-        ensures { IfOk result (λ o. unwrap_or o (bound index) ≡ on_bound self.now depth index) };
+    fn for_bound(
+        &mut self,
+        alloc: Global,
+        depth: u64,
+        index: u32,
+    ) -> Result<Option<Term>, AllocError>
+        ensures exact { IfOk result (λ o. unwrap_or o (bound index) ≡ on_bound self.old depth index) }
+        ensures kept { OnOk result (self.new ≡ self.old) };
 
-    fn for_free(&self, alloc: Global, depth: u64, number: u32) -> Result<Option<Term>, AllocError>
-        ensures { IfOk result (λ o. unwrap_or o (free number) ≡ on_free self.now depth number) };
+    fn for_free(
+        &mut self,
+        alloc: Global,
+        depth: u64,
+        number: u32,
+    ) -> Result<Option<Term>, AllocError>
+        ensures exact { IfOk result (λ o. unwrap_or o (free number) ≡ on_free self.old depth number) }
+        ensures kept { OnOk result (self.new ≡ self.old) };
 
     /// Whether it is known without a walk that nothing is replaced in terms and formulas of this loose
     /// range.
@@ -38,11 +50,12 @@ pub(crate) trait Replace {
 /// The term that the walk gives, or `None` where nothing in it is replaced.
 pub(crate) fn walk_at<R: Replace>(
     alloc: Global,
-    r: &R,
+    r: &mut R,
     t: &Term,
     depth: u64,
 ) -> Result<Option<Term>, AllocError>
-    ensures { IfOk result (λ o. unwrap_or o t.now ≡ walk (R.on_bound r.now) (R.on_free r.now) depth t.now) }
+    ensures exact { IfOk result (λ o. unwrap_or o t.now ≡ walk (R.on_bound r.old) (R.on_free r.old) depth t.now) }
+    ensures kept { OnOk result (r.new ≡ r.old) }
 {
     if r.leaves(t.loose_range(), depth) {
         return Ok(None);
@@ -71,11 +84,12 @@ pub(crate) fn walk_at<R: Replace>(
 #[tactic(auto, using(crate::proofs::WalkLists::walked))]
 pub(crate) fn walk_list<R: Replace>(
     alloc: Global,
-    r: &R,
+    r: &mut R,
     ts: &[Term],
     depth: u64,
 ) -> Result<Option<Items<Term>>, AllocError>
-    ensures { IfOk result (λ o. trees (unwrap_or o ts.now) ≡ walk_all (R.on_bound r.now) (R.on_free r.now) depth (trees ts.now)) }
+    ensures exact { IfOk result (λ o. trees (unwrap_or o ts.now) ≡ walk_all (R.on_bound r.old) (R.on_free r.old) depth (trees ts.now)) }
+    ensures kept { OnOk result (r.new ≡ r.old) }
 {
     let mut out = Vec::new(alloc);
     let mut replaced = false;

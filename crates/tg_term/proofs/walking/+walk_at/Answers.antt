@@ -26,10 +26,13 @@ returns-then-is_empty g t c =
     let none : c.loop-at.terms.items ≡ [] = grind (arith, common_steps) in
     let all : take c.loop-at.at (parts (tree node)) ≡ parts (tree node) = take_all _ _ (omega (arith, c.loop-at-test.false, c.part_count-at-end.ensures)) in
     let same : map step (parts (tree node)) ≡ map term_of (parts (tree node)) =
-    ap (λ (l : List Part). map step l) (sym all) ∙ c.loop-at.invariant.kept none ∙ ap (λ (l : List Part). map term_of l) all in
-    sym c.node-node.ensures ∙ sym (kept_parts node) ∙ ap (with_parts (tree node)) (sym same)
-    ∙ walked_parts _ _ c.args.depth node c.in_default.not-Bound c.in_default.not-Free
-    ∙ ap (walk (g.R.Replace.on_bound c.args.r.now) (g.R.Replace.on_free c.args.r.now) c.args.depth) c.node-node.ensures
+    ap (λ (l : List Part). map step l) (sym all) ∙ c.loop-at.invariant.walked.kept none ∙ ap (λ (l : List Part). map term_of l) all in
+    record {
+      exact = sym c.node-node.ensures ∙ sym (kept_parts node) ∙ ap (with_parts (tree node)) (sym same)
+          ∙ walked_parts _ _ c.args.depth node c.in_default.not-Bound c.in_default.not-Free
+          ∙ ap (walk (g.R.Replace.on_bound c.args.r.now) (g.R.Replace.on_free c.args.r.now) c.args.depth) c.node-node.ensures;
+      kept = c.loop-at.invariant.kept;
+    }
 
 pub returns : goal.returns
 returns g t c =
@@ -37,6 +40,9 @@ returns g t c =
     let step : Part → Tree = walked (g.R.Replace.on_bound c.args.r.now) (g.R.Replace.on_free c.args.r.now) c.args.depth in
     let some : c.loop-at.terms.items ≢ [] = grind (arith, common_steps) in
     let all : take c.loop-at.at (parts (tree node)) ≡ parts (tree node) = take_all _ _ (omega (arith, c.loop-at-test.false, c.part_count-at-end.ensures)) in
-    c.in_ok-with_parts.ensures ∙ ap (with_parts (tree node)) (c.loop-at.invariant.made some ∙ ap (λ (l : List Part). map step l) all)
-    ∙ walked_parts _ _ c.args.depth node c.in_default.not-Bound c.in_default.not-Free
-    ∙ ap (walk (g.R.Replace.on_bound c.args.r.now) (g.R.Replace.on_free c.args.r.now) c.args.depth) c.node-node.ensures
+    record {
+      exact = c.in_ok-with_parts.ensures ∙ ap (with_parts (tree node)) (c.loop-at.invariant.walked.made some ∙ ap (λ (l : List Part). map step l) all)
+          ∙ walked_parts _ _ c.args.depth node c.in_default.not-Bound c.in_default.not-Free
+          ∙ ap (walk (g.R.Replace.on_bound c.args.r.now) (g.R.Replace.on_free c.args.r.now) c.args.depth) c.node-node.ensures;
+      kept = c.loop-at.invariant.kept;
+    }
