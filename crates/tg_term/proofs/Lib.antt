@@ -7,4 +7,4 @@ pub mod Substituted
 pub mod Unmoved
 pub mod ValueLists
 pub mod WalkLaws
-pub mod WalkLists
+pub mod ListHeights

@@ -6,7 +6,7 @@ use Rattle.std.proofs.lemmas.Bool.{eqb-true}
 use Rattle.std.proofs.lemmas.List.{map-append, length-map, drop_all, take_all}
 use Rattle.tg_model.proofs.SameValue.{decides_equality}
 use Rattle.tg_term.proofs.PartLaws.{take_at}
-use Rattle.tg_term.proofs.WalkLists.{height_at}
+use Rattle.tg_term.proofs.ListHeights.{height_at}
 use Rattle.tg_model.specs.Tree as model
 use Rattle.tg_model.specs.Tree.{Tree, Trees, bound, free, literal, truth, con, call, put, choice, case, bind, op, trees}
 use Rattle.tg_model.specs.Value as sem

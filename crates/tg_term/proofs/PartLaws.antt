@@ -1,5 +1,5 @@
 -- The terms below a root, at their places, and other terms put in their places.
-use Rattle.std.proofs.Common.{ℕ, zero, suc, ◌≡◌, ◌≢◌, ◌<◌, ◌≤◌, ◌+◌, ◌-◌, List, [], ◌∷◌, ◌++◌, map, length, take, drop, get_or, Some, None, refl, ap, sym, ◌∙◌, arith, add-one, append_assoc}
+use Rattle.std.proofs.Common.{ℕ, zero, suc, ◌≡◌, ◌≢◌, ◌<◌, ◌≤◌, ◌+◌, ◌-◌, List, [], ◌∷◌, ◌++◌, map, length, take, drop, get_or, Some, None, refl, ap, subst, sym, ◌∙◌, arith, add-one, append_assoc}
 use Rattle.std.proofs.lemmas.List.{map-append}
 use Rattle.std.specs.Prelude.{slice_get, option_map}
 use Rattle.std.proofs.lemmas.Option.{same_Some, none-some}
@@ -129,44 +129,64 @@ taken_next ps i p us vs ws e a b =
     ∙ ap (λ (l : List Tree). us ++ l) (sym (map-append term_of (take i ps) (p ∷ [])))
     ∙ ap (λ (l : List Part). us ++ map term_of l) (sym (take_at ps i p e) ∙ ap (λ n. take n ps) (sym (add-one i)))
 
-module _ (f : Part → Tree) (ps : List Part) (i : ℕ) (p : Part) (e : slice_get ps i ≡ Some p) where
-  next : take (i + 1) ps ≡ take i ps ++ p ∷ []
-  next = ap (λ n. take n ps) (add-one i) ∙ take_at ps i p e
+not_ended : (xs : List Tree) (x : Tree) → ¬ (xs ++ x ∷ [] ≡ [])
+not_ended [] x h = absurd cc
+not_ended (y ∷ ys) x h = absurd cc
 
-  walked_next : map f (take (i + 1) ps) ≡ map f (take i ps) ++ f p ∷ []
-  walked_next = ap (map f) next ∙ map-append f (take i ps) (p ∷ [])
-
+module _ (f : Part → Tree) (ps : List Part) (p : Part) where
   -- nothing is replaced yet
-  pub still_kept : (us : List Tree) → us ≡ [] → f p ≡ p.term → IsWalked f (take i ps) us → IsWalked f (take (i + 1) ps) us
-  still_kept us none same k =
+  pub kept_with : (us : List Tree) → us ≡ [] → f p ≡ p.term → IsWalked f ps us → IsWalked f (ps ++ p ∷ []) us
+  kept_with us none same k =
       record {
-        kept = λ _. walked_next ∙ (λ j. k.kept none j ++ same j ∷ []) ∙ sym (ap (map term_of) next ∙ map-append term_of (take i ps) (p ∷ []));
+        kept = λ _. map-append f ps (p ∷ []) ∙ (λ j. k.kept none j ++ same j ∷ []) ∙ sym (map-append term_of ps (p ∷ []));
         made = λ some. absurd (some none);
       }
 
-  pub added : (us vs : List Tree) (u : Tree) → us ≢ [] → f p ≡ u → vs ≡ us ++ u ∷ [] → IsWalked f (take i ps) us → IsWalked f (take (i + 1) ps) vs
-  added us vs u some same here k =
+  pub added_with : (us vs : List Tree) (u : Tree) → us ≢ [] → f p ≡ u → vs ≡ us ++ u ∷ [] → IsWalked f ps us → IsWalked f (ps ++ p ∷ []) vs
+  added_with us vs u some same here k =
       record {
-        kept = λ none. absurd (ends us u (sym here ∙ none));
-        made = λ _. here ∙ (λ j. k.made some j ++ sym same j ∷ []) ∙ sym walked_next;
+        kept = λ none. absurd (not_ended us u (sym here ∙ none));
+        made = λ _. here ∙ (λ j. k.made some j ++ sym same j ∷ []) ∙ sym (map-append f ps (p ∷ []));
       }
-    where
-      ends : (xs : List Tree) (x : Tree) → ¬ (xs ++ x ∷ [] ≡ [])
-      ends [] x h = absurd cc
-      ends (y ∷ ys) x h = absurd cc
+
+  pub begun_with : (us ws vs : List Tree) (u : Tree) → us ≡ [] → f p ≡ u → ws ≡ us ++ map term_of ps → vs ≡ ws ++ u ∷ []
+      → IsWalked f ps us → IsWalked f (ps ++ p ∷ []) vs
+  begun_with us ws vs u none same shared here k =
+      record {
+        kept = λ empty. absurd (not_ended ws u (sym here ∙ empty));
+        made = λ _. here ∙ (λ j. (shared ∙ ap (λ (l : List Tree). l ++ map term_of ps) none ∙ sym (k.kept none)) j ++ sym same j ∷ []) ∙ sym (map-append f ps (p ∷ []));
+      }
+
+module _ (f : Part → Tree) (ps : List Part) (i : ℕ) (p : Part) (e : slice_get ps i ≡ Some p) where
+  next : take i ps ++ p ∷ [] ≡ take (i + 1) ps
+  next = sym (ap (λ n. take n ps) (add-one i) ∙ take_at ps i p e)
+
+  pub still_kept : (us : List Tree) → us ≡ [] → f p ≡ p.term → IsWalked f (take i ps) us → IsWalked f (take (i + 1) ps) us
+  still_kept us none same k = subst (λ (l : List Part). IsWalked f l us) next (kept_with f (take i ps) p us none same k)
+
+  pub added : (us vs : List Tree) (u : Tree) → us ≢ [] → f p ≡ u → vs ≡ us ++ u ∷ [] → IsWalked f (take i ps) us → IsWalked f (take (i + 1) ps) vs
+  added us vs u some same here k = subst (λ (l : List Part). IsWalked f l vs) next (added_with f (take i ps) p us vs u some same here k)
 
   pub begun : (us ws vs : List Tree) (u : Tree) → us ≡ [] → f p ≡ u → ws ≡ us ++ map term_of (take i ps) → vs ≡ ws ++ u ∷ []
       → IsWalked f (take i ps) us → IsWalked f (take (i + 1) ps) vs
   begun us ws vs u none same shared here k =
-      record {
-        kept = λ empty. absurd (ends ws u (sym here ∙ empty));
-        made = λ _. here ∙ (λ j. (shared ∙ ap (λ (l : List Tree). l ++ map term_of (take i ps)) none ∙ sym (k.kept none)) j ++ sym same j ∷ []) ∙ sym walked_next;
-      }
-    where
-      ends : (xs : List Tree) (x : Tree) → ¬ (xs ++ x ∷ [] ≡ [])
-      ends [] x h = absurd cc
-      ends (y ∷ ys) x h = absurd cc
+      subst (λ (l : List Part). IsWalked f l vs) next (begun_with f (take i ps) p us ws vs u none same shared here k)
+
+-- the terms of a list as parts
+pub plain_terms : (ts : List Tree) → map term_of (plain (trees ts)) ≡ ts
+plain_terms [] = refl
+plain_terms (t ∷ ts) = ap (λ (l : List Tree). t ∷ l) (plain_terms ts)
+
+plain_after : (ts : List Tree) (i : ℕ) (t : Tree) → slice_get ts i ≡ Some t → plain (trees (take i ts)) ++ outside t ∷ [] ≡ plain (trees (take (suc i) ts))
+plain_after [] i t e = absurd cc
+plain_after (x ∷ ts) zero t e = ap (λ (y : Tree). outside y ∷ []) (sym (same_Some x t e))
+plain_after (x ∷ ts) (suc i) t e = ap (λ (l : List Part). outside x ∷ l) (plain_after ts i t e)
+
+pub plain_next : (ts : List Tree) (i : ℕ) (t : Tree) → slice_get ts i ≡ Some t → plain (trees (take i ts)) ++ outside t ∷ [] ≡ plain (trees (take (i + 1) ts))
+plain_next ts i t e = plain_after ts i t e ∙ ap (λ n. plain (trees (take n ts))) (sym (add-one i))
 
 pub ruleset sharing = (taken_next, none_within)
 
 pub ruleset adding = (still_kept, added, begun)
+
+pub ruleset adding_plain = (kept_with, added_with, begun_with, plain_terms)

@@ -9,7 +9,7 @@ use Rattle.tg_model.specs.Filling.{filled_term, fill}
 use Rattle.tg_term.specs.Values.{value, values, value-Nat, value-Bool, value-Con}
 use Rattle.tg_term.specs.declared.values.Value.{Value}
 use Rattle.tg_term.proofs.PartLaws.{drop_at}
-use Rattle.tg_term.proofs.WalkLists.{height_at}
+use Rattle.tg_term.proofs.ListHeights.{height_at}
 
 pub values_from : (vs : List Value) (i : ℕ) (v : Value) → slice_get vs i ≡ Some v → values (drop i vs) ≡ sem.more (value v) (values (drop (i + 1) vs))
 values_from vs i v e = ap values (drop_at vs i v e ∙ ap (λ n. v ∷ drop n vs) (sym (add-one i)))

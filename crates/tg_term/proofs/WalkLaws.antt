@@ -9,7 +9,7 @@ use Rattle.tg_term.specs.View.{tree, arms}
 use Rattle.tg_term.specs.declared.terms.Node.{Node}
 use Rattle.tg_term.specs.declared.terms.Node.TheVariants.{Bound, Free, Lit, Truth, Con, Call, Put, If, Case, Let, Op}
 
-kept_plain : (ts : Trees) → trees (map term_of (plain ts)) ≡ ts
+pub kept_plain : (ts : Trees) → trees (map term_of (plain ts)) ≡ ts
 kept_plain model.none = refl
 kept_plain (model.more t ts) = ap (model.more t) (kept_plain ts)
 
@@ -34,10 +34,10 @@ module _ (on_bound on_free : ℕ → ℕ → Tree) (d : ℕ) where
   abbrev pub walked : Part → Tree
   walked p = walk on_bound on_free (d + p.vars) p.term
 
-  here : (t : Tree) → walk on_bound on_free (d + 0) t ≡ walk on_bound on_free d t
+  pub here : (t : Tree) → walk on_bound on_free (d + 0) t ≡ walk on_bound on_free d t
   here t = ap (λ n. walk on_bound on_free n t) (add-zero d)
 
-  walked_plain : (ts : Trees) → trees (map walked (plain ts)) ≡ walk_all on_bound on_free d ts
+  pub walked_plain : (ts : Trees) → trees (map walked (plain ts)) ≡ walk_all on_bound on_free d ts
   walked_plain model.none = refl
   walked_plain (model.more t ts) = λ i. model.more (here t i) (walked_plain ts i)
 

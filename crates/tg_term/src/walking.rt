@@ -1,10 +1,11 @@
 //! One walk over terms and formulas, of which lifting, substitution, instantiation and abstraction are
 //! instances. A part in which nothing is replaced is handed on as it is.
-ghost use Rattle.std.specs.Prelude.{◌≡◌, ◌≤◌, ◌+◌, IfOk, OnOk, IsTrue, unwrap_or};
-ghost use Rattle.tg_model.specs.Tree.{bound, free, trees};
+ghost use Rattle.std.specs.Prelude.{◌≡◌, ◌≤◌, ◌+◌, ◌++◌, [], ◌∷◌, IfOk, OnOk, IsTrue, unwrap_or};
+ghost use Rattle.tg_model.specs.Tree.{Tree, bound, free, trees};
 ghost use Rattle.tg_model.specs.Walk.{walk, walk_all, walk_formula};
 ghost use Rattle.tg_term.specs.FormulaMeasures.{formula_range};
 ghost use Rattle.tg_term.specs.Measures.{loose_range};
+ghost use Rattle.tg_term.specs.Parts.{Part, IsWalked, outside, plain};
 
 use crate::parts::{add_part, part_at, part_count, with_parts};
 use crate::terms::{Node, Term};
@@ -81,7 +82,6 @@ pub(crate) fn walk_at<R: Replace>(
 }
 
 /// The terms that the walk gives, or `None` where nothing in them is replaced.
-#[tactic(auto, using(crate::proofs::WalkLists::walked))]
 pub(crate) fn walk_list<R: Replace>(
     alloc: Global,
     r: &mut R,
@@ -92,17 +92,52 @@ pub(crate) fn walk_list<R: Replace>(
     ensures kept { OnOk result (r.new ≡ r.old) }
 {
     let mut out = Vec::new(alloc);
-    let mut replaced = false;
-    for t in ts {
+    for (at, t) in ts.iter().enumerate() {
         let walked = walk_at(alloc, r, t, depth)?;
-        replaced = replaced || walked.is_some();
-        out.push(or_shared(t, walked)?)?;
+        add_term(&mut out, &ts[..at], t, walked)?;
     }
-    if replaced {
-        Ok(Some(Items::from_vec(out)))
-    } else {
-        Ok(None)
+    if out.is_empty() {
+        return Ok(None);
     }
+    Ok(Some(Items::from_vec(out)))
+}
+
+/// Adds what a walk makes of a term to what it made of those before it. There is no list, and `terms` is
+/// empty, while the walk has left all terms as they are.
+#[tactic(auto, using(crate::proofs::PartLaws::adding_plain))]
+fn add_term(
+    terms: &mut Vec<Term>,
+    before: &[Term],
+    t: &Term,
+    walked: Option<Term>,
+) -> Result<(), AllocError>
+    ensures { (f : Part → Tree) → f (outside t.now) ≡ unwrap_or walked t.now → IsWalked f (plain (trees before.now)) terms.old.items
+        → OnOk result (IsWalked f (plain (trees before.now) ++ outside t.now ∷ []) terms.new.items) }
+{
+    match walked {
+        None if terms.is_empty() => Ok(()),
+        None => {
+            terms.push(t.share()?)?;
+            Ok(())
+        }
+        Some(u) => {
+            if terms.is_empty() {
+                share_all(terms, before)?;
+            }
+            terms.push(u)?;
+            Ok(())
+        }
+    }
+}
+
+/// Adds the terms.
+fn share_all(terms: &mut Vec<Term>, ts: &[Term]) -> Result<(), AllocError>
+    ensures { OnOk result (terms.new.items ≡ terms.old.items ++ ts.now) }
+{
+    for t in ts {
+        terms.push(t.share()?)?;
+    }
+    Ok(())
 }
 
 /// The term that was walked to, or else the same term.
