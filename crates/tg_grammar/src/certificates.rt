@@ -1,11 +1,11 @@
 use crate::formulas::RawFormula;
 use crate::terms::RawTerm;
 use crate::types::RawTy;
-use sqlite_items::Items;
+use sqlite_items::{Boxed, Items};
 use tg_types::Name;
 
 /// A certificate as it is written.
-#[derive(Debug, Drop)]
+#[derive(Drop)]
 pub struct RawCert {
     /// Its lines in their order.
     pub lines: Items<RawLine>,
@@ -13,7 +13,7 @@ pub struct RawCert {
 
 /// A line of a certificate: a rule of the calculus and its arguments. Those that the rule doesn't have
 /// are empty.
-#[derive(Debug, Drop)]
+#[derive(Drop)]
 pub struct RawLine {
     /// The number that is written before the rule.
     pub number: u64,
@@ -26,13 +26,13 @@ pub struct RawLine {
     /// The name of a schema.
     pub word: Option<Name>,
     /// The formula.
-    pub formula: Option<RawFormula>,
+    pub formula: Option<Boxed<RawFormula>>,
     /// The terms.
     pub terms: Items<RawTerm>,
 }
 
 /// What a rule has for an argument.
-#[derive(Clone, Copy, Debug, PartialEq, Eq)]
+#[derive(Clone, Copy)]
 pub enum Argument {
     /// A context.
     Context,

@@ -4,7 +4,7 @@ use sqlite_items::Items;
 use tg_types::Name;
 
 /// A theory as it is written.
-#[derive(Debug, Drop)]
+#[derive(Drop)]
 pub struct RawTheory {
     /// Its name.
     pub name: Name,
@@ -15,7 +15,7 @@ pub struct RawTheory {
 }
 
 /// A declaration.
-#[derive(Debug, Drop)]
+#[derive(Drop)]
 pub enum RawDecl {
     /// A datatype.
     Datatype {
@@ -61,7 +61,7 @@ pub enum RawDecl {
 }
 
 /// A constructor of a datatype.
-#[derive(Debug, Drop)]
+#[derive(Drop)]
 pub struct RawConDef {
     /// Its name.
     pub name: Name,
@@ -70,7 +70,7 @@ pub struct RawConDef {
 }
 
 /// An equation of a function.
-#[derive(Debug, Drop)]
+#[derive(Drop)]
 pub struct RawEq {
     /// The name that it begins with.
     pub head: Name,
@@ -81,7 +81,7 @@ pub struct RawEq {
 }
 
 /// A pattern of an argument.
-#[derive(Debug, Drop)]
+#[derive(Drop)]
 pub enum RawPat {
     /// A bare name, a constructor or a variable.
     Word(Name),

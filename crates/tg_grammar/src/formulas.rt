@@ -3,7 +3,7 @@ use crate::types::RawTy;
 use sqlite_items::{Boxed, Items};
 
 /// A formula as it is written.
-#[derive(Debug, Drop)]
+#[derive(Drop)]
 pub enum RawFormula {
     /// `[t]`: the term is true.
     Atom(RawTerm),

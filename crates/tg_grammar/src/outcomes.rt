@@ -2,7 +2,7 @@ use crate::terms::RawTerm;
 use sqlite_items::Items;
 
 /// The recorded outcomes of tests, as they are written.
-#[derive(Debug, Drop)]
+#[derive(Drop)]
 pub struct RawOutcomes {
     /// The settings of their header, in the order depth, bound, seed, tries, width.
     pub settings: [u64; 5],
@@ -11,7 +11,7 @@ pub struct RawOutcomes {
 }
 
 /// What the program did in one test.
-#[derive(Debug, Drop)]
+#[derive(Drop)]
 pub struct RawItem {
     /// The number of the test.
     pub test: u64,

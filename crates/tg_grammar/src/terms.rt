@@ -3,7 +3,7 @@ use tg_types::Name;
 
 /// A term as it is written.
 #[cycle(term)]
-#[derive(Debug, Drop)]
+#[derive(Drop)]
 pub enum RawTerm {
     /// A number.
     Num(u64),
@@ -26,7 +26,7 @@ pub enum RawTerm {
 }
 
 /// A variable where it is bound.
-#[derive(Debug, Drop)]
+#[derive(Drop)]
 pub enum Binder {
     /// A name.
     Named(Name),
@@ -36,7 +36,7 @@ pub enum Binder {
 
 /// A branch of a `case`.
 #[cycle(term)]
-#[derive(Debug, Drop)]
+#[derive(Drop)]
 pub struct RawBranch {
     /// The constructor.
     pub con: RawCon,
@@ -47,7 +47,7 @@ pub struct RawBranch {
 }
 
 /// A constructor in a pattern or a branch.
-#[derive(Debug, Drop)]
+#[derive(Drop)]
 pub enum RawCon {
     /// `0`.
     Zero,

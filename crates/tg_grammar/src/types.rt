@@ -2,7 +2,7 @@ use sqlite_items::Items;
 use tg_types::Name;
 
 /// A type as it is written.
-#[derive(Debug, Drop)]
+#[derive(Drop)]
 pub enum RawTy {
     /// A datatype's name and the types that it is applied to.
     Word(Name, Items<RawTy>),

@@ -275,7 +275,7 @@ static VERSION_ONE: [Row; 63] = [
 
 /// The words that have a kind of their own in an input, and their kinds: those that are reserved there, and those that have a
 /// meaning in one place. A contract sees the rows.
-#[derive(Debug, Drop)]
+#[derive(Drop)]
 pub struct Vocabulary {
     rows: &'static [Row],
 }

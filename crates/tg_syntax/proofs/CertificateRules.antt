@@ -11,8 +11,8 @@ use Rattle.tg_grammar.specs.declared.certificates.RawLine.{RawLine}
 use Rattle.tg_grammar.specs.First.{numbers}
 use Rattle.tg_grammar.specs.Kinds.{comma}
 use Rattle.tg_grammar.specs.Parts.{Judge, Check, Certificate, Lines, Line, Context, Numbers, TypeAtom, MoreTypeAtoms}
-use Rattle.tg_syntax.specs.Answers.{value_at}
-use Rattle.tg_syntax.specs.Pieces.{type_atoms_by_commas}
+use Rattle.tg_reading.specs.Answers.{value_at}
+use Rattle.tg_syntax.specs.Steps.{type_atoms_by_commas}
 
 pub judge_is : (ts : List Seen) → reads Judge ts ≡ step Judge ts
 judge_is = reads_by_rule Judge

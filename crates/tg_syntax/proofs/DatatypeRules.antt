@@ -1,16 +1,16 @@
 -- Each part of datatypes is read as its rule says.
-use Rattle.std.proofs.Common.{◌≡◌, ℕ, true, false, List, [], ◌∷◌, ◌++◌}
-use Rattle.tg_rules.specs.Reader.{ok, err, starts, token_at}
+use Rattle.std.proofs.Common.{◌≡◌, ℕ, refl, true, false, List, [], ◌∷◌, ◌++◌}
+use Rattle.tg_rules.specs.Reader.{Read, ok, err, out, mapped, followed, starts, token_at}
 use Rattle.tg_rules.specs.Repetition.{with_front}
 use Rattle.tg_rules.proofs.Repetition.{without_front, last_one, one_behind, some_fault}
 use Rattle.tg_grammar.specs.Seen.{Seen}
 use Rattle.tg_grammar.specs.Reading.{kind, reads, step}
 use Rattle.tg_grammar.proofs.Readings.{reads_by_rule}
 use Rattle.tg_grammar.specs.declared.declarations.RawConDef.{RawConDef}
-use Rattle.tg_grammar.specs.Kinds.{comma, or, type_variable}
+use Rattle.tg_grammar.specs.Kinds.{open_paren, close_paren, comma, or, type_variable}
 use Rattle.tg_grammar.specs.Parts.{Parameters, MoreParameters, Constructor, MoreConstructors}
-use Rattle.tg_grammar.specs.Page.{parameters, constructors_of}
-use Rattle.tg_syntax.specs.Answers.{by_rule, text_at}
+use Rattle.tg_grammar.specs.Page.{parameters, several_parameters, constructors_of}
+use Rattle.tg_reading.specs.Answers.{by_rule, text_at}
 
 pub parameters_is : (ts : List Seen) → reads Parameters ts ≡ step Parameters ts
 parameters_is = reads_by_rule Parameters
@@ -18,10 +18,31 @@ parameters_is = reads_by_rule Parameters
 pub constructor_is : (ts : List Seen) → reads Constructor ts ≡ step Constructor ts
 constructor_is = reads_by_rule Constructor
 
--- ---- repetitions
+-- the type variables that are read behind the first, with the first in front
+module _ (first : List ℕ) where
+  at_end : (s t : Seen) (names : List (List ℕ)) (r : Read Seen Seen)
+      → mapped {A = List ℕ × List (List ℕ)} (λ x. x.0 ∷ x.1) (mapped {A = Seen × (List ℕ × List (List ℕ))} (λ x. x.1) (mapped {B = Seen × (List ℕ × List (List ℕ))} (λ b. (s, b)) (mapped {B = List ℕ × List (List ℕ)} (λ b. (first, b)) (mapped {A = Seen × List (List ℕ)} (λ x. x.1) (mapped {B = Seen × List (List ℕ)} (λ b. (t, b)) (mapped {A = List (List ℕ) × Seen} (λ x. x.0) (mapped {B = List (List ℕ) × Seen} (λ b. (names, b)) r)))))))
+      ≡ mapped {A = List (List ℕ) × Seen} (λ x. x.0) (mapped {B = List (List ℕ) × Seen} (λ b. (first ∷ names, b)) r)
+  at_end s t names (ok u left) = refl
+  at_end s t names (err left) = refl
+  at_end s t names out = refl
 
-pub type_variables_begin : (ts : List Seen) → with_front [] (by_rule parameters ts) ≡ by_rule parameters ts
-type_variables_begin ts = without_front (by_rule parameters ts)
+  further : (s t : Seen) (end : List Seen → Read Seen Seen) (more : Read Seen (List (List ℕ)))
+      → mapped {A = List ℕ × List (List ℕ)} (λ x. x.0 ∷ x.1) (mapped {A = Seen × (List ℕ × List (List ℕ))} (λ x. x.1) (mapped {B = Seen × (List ℕ × List (List ℕ))} (λ b. (s, b)) (mapped {B = List ℕ × List (List ℕ)} (λ b. (first, b)) (mapped {A = Seen × List (List ℕ)} (λ x. x.1) (mapped {B = Seen × List (List ℕ)} (λ b. (t, b)) (mapped {A = List (List ℕ) × Seen} (λ x. x.0) (followed {B = Seen} more end)))))))
+      ≡ mapped {A = List (List ℕ) × Seen} (λ x. x.0) (followed {B = Seen} (with_front (first ∷ []) more) end)
+  further s t end (ok names rest) = at_end s t names (end rest)
+  further s t end (err left) = refl
+  further s t end out = refl
+
+pub several_goes_on : (ts rest behind left : List Seen) (first : List ℕ) (s t : Seen) → token_at kind (open_paren ∷ []) ts ≡ ok s rest
+    → text_at (type_variable ∷ []) rest ≡ ok first behind → token_at kind (comma ∷ []) behind ≡ ok t left
+    → by_rule several_parameters ts ≡ mapped {A = List (List ℕ) × Seen} (λ x. x.0) (followed {B = Seen} (with_front (first ∷ []) (by_rule parameters left)) (token_at kind (close_paren ∷ [])))
+several_goes_on ts rest behind left first s t opening read token =
+    rw (opening, read, token) (further first s t (token_at kind (close_paren ∷ [])) (by_rule parameters left))
+
+pub ruleset several_by = (several_goes_on)
+
+-- ---- repetitions
 
 pub type_variables_end : (front : List (List ℕ)) (ts rest : List Seen) (x : List ℕ) → text_at (type_variable ∷ []) ts ≡ ok x rest → starts kind (comma ∷ []) rest ≡ false
     → with_front front (by_rule parameters ts) ≡ ok (front ++ x ∷ []) rest
@@ -34,7 +55,7 @@ type_variables_next = one_behind (starts kind (comma ∷ [])) (text_at (type_var
 pub type_variables_fault : (front : List (List ℕ)) (ts left : List Seen) → text_at (type_variable ∷ []) ts ≡ err left → with_front front (by_rule parameters ts) ≡ err left
 type_variables_fault = some_fault (starts kind (comma ∷ [])) (text_at (type_variable ∷ [])) (reads MoreParameters)
 
-pub ruleset type_variables_by = (type_variables_begin, type_variables_end, type_variables_next, type_variables_fault)
+pub ruleset type_variables_by = (type_variables_end, type_variables_next, type_variables_fault)
 
 pub constructors_begin : (ts : List Seen) → with_front [] (by_rule constructors_of ts) ≡ by_rule constructors_of ts
 constructors_begin ts = without_front (by_rule constructors_of ts)

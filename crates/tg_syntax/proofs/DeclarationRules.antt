@@ -4,7 +4,7 @@ use Rattle.tg_rules.specs.Reader.{ok, err, starts}
 use Rattle.tg_rules.specs.Repetition.{with_front}
 use Rattle.tg_rules.proofs.Repetition.{front_end, front_next, front_fault, without_front, some_fault, some_end, some_next}
 use Rattle.tg_grammar.specs.Page.{equations}
-use Rattle.tg_syntax.specs.Answers.{by_rule}
+use Rattle.tg_reading.specs.Answers.{by_rule}
 use Rattle.tg_grammar.specs.Seen.{Seen}
 use Rattle.tg_grammar.specs.Reading.{kind, reads, step}
 use Rattle.tg_grammar.proofs.Readings.{reads_by_rule}

@@ -1,15 +1,7 @@
 pub mod CertificateRules
 pub mod DatatypeRules
 pub mod DeclarationRules
-pub mod FormulaRules
-pub mod Left
 pub mod Moving
 pub mod OutcomeRules
 pub mod Parsed
-pub mod PatternRules
-pub mod Repetitions
-pub mod RuleNames
-pub mod Rules
 pub mod StepRules
-pub mod TermRepetitions
-pub mod TermRules

@@ -4,7 +4,7 @@ use Rattle.tg_rules.specs.Reader.{Read, ok, err, out, mapped, followed, token_at
 use Rattle.tg_grammar.specs.First.{numbers}
 use Rattle.tg_grammar.specs.Reading.{kind}
 use Rattle.tg_grammar.specs.Seen.{Seen}
-use Rattle.tg_syntax.specs.Answers.{value_at}
+use Rattle.tg_reading.specs.Answers.{value_at}
 use Rattle.tg_syntax.specs.Outcomes.{setting}
 
 module _ {T A B C : Type 0} where

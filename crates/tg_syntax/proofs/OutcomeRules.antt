@@ -8,7 +8,7 @@ use Rattle.tg_grammar.specs.declared.outcomes.RawItem.{RawItem}
 use Rattle.tg_grammar.specs.declared.terms.RawTerm.{RawTerm}
 use Rattle.tg_grammar.specs.Seen.{Seen}
 use Rattle.tg_grammar.specs.Kinds.{answer_word, raised_word, outcomes_word, depth_word, bound_word, seed_word, tries_word, width_word, begin_word, end_word}
-use Rattle.tg_syntax.specs.Answers.{behind}
+use Rattle.tg_reading.specs.Answers.{behind}
 use Rattle.tg_syntax.specs.Outcomes.{setting}
 use Rattle.tg_syntax.proofs.Moving.{next_same, setting_first}
 use Rattle.tg_grammar.specs.First.{atoms}

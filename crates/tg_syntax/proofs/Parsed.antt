@@ -16,12 +16,12 @@ use Rattle.tg_grammar.specs.Samples.{token, sample}
 use Rattle.tg_grammar.specs.Passing.{all_pass}
 use Rattle.tg_grammar.specs.Reading.{kind, IsText, reads}
 use Rattle.tg_grammar.proofs.Readings.{reads_texts, stops_at_fault, stops_before_fault, not_both, one_value}
-use Rattle.tg_syntax.specs.declared.reader.Stop.{Stop}
-use Rattle.tg_syntax.specs.declared.reader.Stop.TheVariants.{Wrong, Memory}
+use Rattle.tg_reading.specs.declared.reader.Stop.{Stop}
+use Rattle.tg_reading.specs.declared.reader.Stop.TheVariants.{Wrong, Memory}
 use Rattle.tg_syntax.specs.declared.parsing.FormErr.{FormErr}
 use Rattle.tg_syntax.specs.declared.parsing.FormErr.TheVariants.{Nested, Form}
 use Rattle.tg_syntax.specs.declared.parsing.FormErr.TheVariants as errors
-use Rattle.tg_syntax.specs.Answers.{Gives}
+use Rattle.tg_reading.specs.Answers.{Gives}
 use Rattle.tg_syntax.specs.Parsing.{IsFormFault, Parses, Tells, finished, fault_before}
 
 -- what stands before the last tokens

@@ -14,8 +14,8 @@ use Rattle.tg_grammar.specs.Reading.{kind, reads}
 use Rattle.tg_grammar.specs.Seen.{Seen}
 use Rattle.tg_grammar.specs.Steps.{RuleRow, argument, arguments, row, rows, first_row, other_rows}
 use Rattle.tg_grammar.proofs.Readings.{reads_by_rule}
-use Rattle.tg_syntax.specs.Answers.{by_rule}
-use Rattle.tg_syntax.specs.Steps.{arguments_read, arguments_in, arguments_of, rule_at}
+use Rattle.tg_reading.specs.Answers.{by_rule, rule_at}
+use Rattle.tg_syntax.specs.Steps.{arguments_read, arguments_in, arguments_of}
 
 -- ---- lines
 

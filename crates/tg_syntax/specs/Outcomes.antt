@@ -3,7 +3,7 @@ use Rattle.std.specs.Prelude.{ℕ, List}
 use Rattle.tg_rules.specs.Reader.{Read}
 use Rattle.tg_grammar.specs.Seen.{Seen}
 use Rattle.tg_grammar.specs.First.{numbers}
-use Rattle.tg_syntax.specs.Answers.{behind, value_at}
+use Rattle.tg_reading.specs.Answers.{behind, value_at}
 
 -- a word and its number
 unfoldable pub setting : ℕ → List Seen → Read Seen ℕ

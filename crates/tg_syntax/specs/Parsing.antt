@@ -6,9 +6,9 @@ use Rattle.tg_rules.specs.Fault.{IsFault}
 use Rattle.tg_grammar.specs.Seen.{Seen, seen, declarations}
 use Rattle.tg_grammar.specs.Parts.{Part, Value}
 use Rattle.tg_grammar.specs.Reading.{IsText}
-use Rattle.tg_syntax.specs.declared.reader.Stop.{Stop}
-use Rattle.tg_syntax.specs.declared.reader.Stop.TheVariants.{Wrong}
-use Rattle.tg_syntax.specs.declared.reader.Stop.TheVariants as stops
+use Rattle.tg_reading.specs.declared.reader.Stop.{Stop}
+use Rattle.tg_reading.specs.declared.reader.Stop.TheVariants.{Wrong}
+use Rattle.tg_reading.specs.declared.reader.Stop.TheVariants as stops
 use Rattle.tg_syntax.specs.declared.parsing.FormErr.{FormErr}
 use Rattle.tg_syntax.specs.declared.parsing.FormErr.TheVariants.{Nested, Form, Memory}
 

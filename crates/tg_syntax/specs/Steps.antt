@@ -1,18 +1,18 @@
 -- How a step of a certificate is read: the arguments of its rule, one after another, into a line.
 use Rattle.std.specs.Prelude.{ℕ, ◌≡◌, List, [], ◌∷◌, Result, Ok, Err, if◌then◌else◌}
-use Rattle.tg_rules.specs.Rule.{has}
-use Rattle.tg_rules.specs.Reader.{Read, ok, err, mapped, followed, token_at}
+use Rattle.tg_rules.specs.Rule.{has, nt, ◌∙∙◌}
+use Rattle.tg_rules.specs.Reader.{Read, ok, err, mapped, followed}
 use Rattle.tg_grammar.specs.declared.certificates.Argument.{Argument}
 use Rattle.tg_grammar.specs.declared.certificates.RawLine.{RawLine}
-use Rattle.tg_grammar.specs.First.{rules}
+use Rattle.tg_grammar.specs.declared.types.RawTy.{RawTy}
 use Rattle.tg_grammar.specs.Making.{no_arguments, with_arguments}
-use Rattle.tg_grammar.specs.Notation.{quoted}
-use Rattle.tg_grammar.specs.Reading.{kind}
+use Rattle.tg_grammar.specs.Notation.{quoted, some}
+use Rattle.tg_grammar.specs.Parts.{TypeAtom, MoreTypeAtoms}
 use Rattle.tg_grammar.specs.Seen.{Seen}
 use Rattle.tg_grammar.specs.Steps.{RuleRow, argument, first_row, other_rows}
-use Rattle.tg_syntax.specs.declared.reader.Stop.{Stop}
-use Rattle.tg_syntax.specs.declared.reader.Stop.TheVariants.{Memory, Wrong}
-use Rattle.tg_syntax.specs.Answers.{by_rule}
+use Rattle.tg_reading.specs.declared.reader.Stop.{Stop}
+use Rattle.tg_reading.specs.declared.reader.Stop.TheVariants.{Memory, Wrong}
+use Rattle.tg_reading.specs.Answers.{by_rule}
 
 -- these arguments, together
 abbrev pub arguments_read : List Argument → List Seen → Read Seen RawLine
@@ -33,6 +33,6 @@ arguments_in k r (s ∷ ss) = if has (quoted r.name ∷ []) k then r.first ∷ r
 unfoldable pub arguments_of : ℕ → List Argument
 arguments_of k = arguments_in k first_row other_rows
 
--- the kind of the name of a rule
-abbrev pub rule_at : List Seen → Read Seen ℕ
-rule_at ts = mapped (λ s. s.kind) (token_at kind rules ts)
+-- types in brackets and simple ones, with commas between them
+abbrev pub type_atoms_by_commas : List Seen → Read Seen (List RawTy)
+type_atoms_by_commas = by_rule (some (nt TypeAtom ∙∙ nt MoreTypeAtoms))

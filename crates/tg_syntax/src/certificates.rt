@@ -2,14 +2,14 @@
 ghost use Rattle.std.specs.Prelude.{◌≡◌, ◌<◌, ◌≤◌, length, OnOk};
 ghost use Rattle.tg_grammar.specs.Parts.{Certificate, Lines, Line};
 ghost use Rattle.tg_grammar.specs.Reading.{reads};
-ghost use Rattle.tg_syntax.specs.Answers.{Gives};
+ghost use Rattle.tg_reading.specs.Answers.{Gives};
 
-use crate::reader::{Reader, Stop};
 use crate::steps::step;
 use sqlite_items::Items;
 use std::alloc::Global;
 use tg_grammar::kinds::{BEGIN_WORD, CERTIFICATE_WORD, END_WORD, ONE_NUMBER, SEMICOLON};
 use tg_grammar::{RawCert, RawLine};
+use tg_reading::{Growing, Reader, Stop};
 
 /// `certificate 1 begin`, lines and `end`.
 #[tactic(auto, using(crate::proofs::CertificateRules::certificate_is))]
@@ -31,11 +31,11 @@ fn lines(alloc: Global, reader: &mut Reader) -> Result<Items<RawLine>, Stop>
     ensures exact { Gives result reader.new (reads Lines reader.old) }
     ensures less { OnOk result (length reader.new ≤ length reader.old) }
 {
-    let mut lines = Items::new(alloc);
+    let mut lines = Growing::new(alloc);
     while reader.is_number_next() {
         lines.push(line(alloc, reader)?)?;
     }
-    Ok(lines)
+    Ok(lines.done())
 }
 
 /// A number, a step and `;`.
@@ -45,7 +45,8 @@ fn line(alloc: Global, reader: &mut Reader) -> Result<RawLine, Stop>
     ensures less { OnOk result (length reader.new < length reader.old) }
 {
     let number = reader.number()?;
-    let step = step(alloc, reader)?;
+    let mut line = step(alloc, reader)?;
     reader.take(SEMICOLON)?;
-    Ok(RawLine { number, ..step })
+    line.number = number;
+    Ok(line)
 }

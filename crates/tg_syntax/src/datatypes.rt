@@ -1,17 +1,16 @@
 //! The type variables and the constructors of datatypes.
-ghost use Rattle.std.specs.Prelude.{◌≡◌, ◌<◌, ◌≤◌, length, OnOk};
+ghost use Rattle.std.specs.Prelude.{◌≡◌, ◌<◌, ◌≤◌, [], ◌∷◌, length, OnOk};
+ghost use Rattle.tg_rules.specs.Repetition.{with_front};
 ghost use Rattle.tg_grammar.specs.Page.{parameters, several_parameters, constructors_of};
 ghost use Rattle.tg_grammar.specs.Parts.{Parameters, Constructor};
 ghost use Rattle.tg_grammar.specs.Reading.{reads};
-ghost use Rattle.tg_syntax.specs.Answers.{Gives, by_rule};
+ghost use Rattle.tg_reading.specs.Answers.{Gives, by_rule};
 
-use crate::lists::{in_front, one};
-use crate::reader::{Reader, Stop};
-use crate::types::type_atoms;
 use sqlite_items::Items;
 use std::alloc::Global;
 use tg_grammar::RawConDef;
 use tg_grammar::kinds::{CLOSE_PAREN, COMMA, OPEN_PAREN, OR, TYPE_VARIABLE};
+use tg_reading::{Growing, Reader, Stop, one, type_atoms};
 use tg_types::Name;
 
 /// Nothing, a type variable, or several in brackets.
@@ -31,6 +30,7 @@ pub(crate) fn parameters(alloc: Global, reader: &mut Reader) -> Result<Items<Nam
 }
 
 /// `(`, two type variables or more with commas between them, and `)`.
+#[tactic(auto, using(crate::proofs::DatatypeRules::several_by))]
 fn several_parameters(alloc: Global, reader: &mut Reader) -> Result<Items<Name>, Stop>
     ensures exact { Gives result reader.new (by_rule several_parameters reader.old) }
     ensures less { OnOk result (length reader.new < length reader.old) }
@@ -38,22 +38,23 @@ fn several_parameters(alloc: Global, reader: &mut Reader) -> Result<Items<Name>,
     reader.take(OPEN_PAREN)?;
     let first = reader.type_variable(alloc)?;
     reader.take(COMMA)?;
-    let others = type_variables(alloc, reader)?;
+    let names = type_variables(alloc, reader, first)?;
     reader.take(CLOSE_PAREN)?;
-    Ok(in_front(alloc, first, others)?)
+    Ok(names)
 }
 
-/// Type variables with commas between them.
+/// Type variables with commas between them, behind the first.
 #[tactic(auto, using(crate::proofs::DatatypeRules::type_variables_by))]
-fn type_variables(alloc: Global, reader: &mut Reader) -> Result<Items<Name>, Stop>
-    ensures exact { Gives result reader.new (by_rule parameters reader.old) }
+fn type_variables(alloc: Global, reader: &mut Reader, first: Name) -> Result<Items<Name>, Stop>
+    ensures exact { Gives result reader.new (with_front (first ∷ []) (by_rule parameters reader.old)) }
     ensures less { OnOk result (length reader.new < length reader.old) }
 {
-    let mut names = Items::new(alloc);
+    let mut names = Growing::new(alloc);
+    names.push(first)?;
     loop {
         names.push(reader.type_variable(alloc)?)?;
         if !reader.skips(COMMA) {
-            return Ok(names);
+            return Ok(names.done());
         }
     }
 }
@@ -75,11 +76,11 @@ pub(crate) fn constructors(alloc: Global, reader: &mut Reader) -> Result<Items<R
     ensures exact { Gives result reader.new (by_rule constructors_of reader.old) }
     ensures less { OnOk result (length reader.new < length reader.old) }
 {
-    let mut constructors = Items::new(alloc);
+    let mut constructors = Growing::new(alloc);
     loop {
         constructors.push(constructor(alloc, reader)?)?;
         if !reader.skips(OR) {
-            return Ok(constructors);
+            return Ok(constructors.done());
         }
     }
 }

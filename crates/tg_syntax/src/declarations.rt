@@ -3,15 +3,10 @@ ghost use Rattle.std.specs.Prelude.{◌≡◌, ◌<◌, ◌≤◌, length, OnOk}
 ghost use Rattle.tg_grammar.specs.Page.{datatype, primrec, definition, program, specification};
 ghost use Rattle.tg_grammar.specs.Parts.{Theory, Declaration, Declarations};
 ghost use Rattle.tg_grammar.specs.Reading.{reads};
-ghost use Rattle.tg_syntax.specs.Answers.{Gives, by_rule};
+ghost use Rattle.tg_reading.specs.Answers.{Gives, by_rule};
 
 use crate::datatypes::{constructors, parameters};
 use crate::equations::equations;
-use crate::modes::Mode;
-use crate::patterns::names;
-use crate::reader::{Reader, Stop};
-use crate::terms::term;
-use crate::types::function_type;
 use sqlite_items::Items;
 use std::alloc::Global;
 use tg_grammar::kinds::{
@@ -19,6 +14,7 @@ use tg_grammar::kinds::{
     PRIMREC_WORD, PROGRAM_WORD, SEMICOLON, SPEC_WORD, THEORY_WORD, VERSION_WORD, WHERE_WORD,
 };
 use tg_grammar::{RawDecl, RawTheory};
+use tg_reading::{Growing, Mode, Reader, Stop, function_type, names, term};
 
 /// `theory`, a name, `version 1 begin`, declarations and `end`.
 #[tactic(auto, using(crate::proofs::DeclarationRules::theory_is))]
@@ -46,7 +42,7 @@ fn declarations(alloc: Global, reader: &mut Reader) -> Result<Items<RawDecl>, St
     ensures exact { Gives result reader.new (reads Declarations reader.old) }
     ensures less { OnOk result (length reader.new ≤ length reader.old) }
 {
-    let mut declarations = Items::new(alloc);
+    let mut declarations = Growing::new(alloc);
     while reader.is_next(&[
         DATATYPE_WORD,
         PRIMREC_WORD,
@@ -56,7 +52,7 @@ fn declarations(alloc: Global, reader: &mut Reader) -> Result<Items<RawDecl>, St
     ]) {
         declarations.push(declaration(alloc, reader)?)?;
     }
-    Ok(declarations)
+    Ok(declarations.done())
 }
 
 /// A datatype, a function, the program or its specification.

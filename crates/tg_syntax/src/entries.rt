@@ -2,14 +2,14 @@
 ghost use Rattle.std.specs.Prelude.{◌≡◌, ◌<◌, length, OnOk};
 ghost use Rattle.tg_grammar.specs.Parts.{Judge, Check};
 ghost use Rattle.tg_grammar.specs.Reading.{reads};
-ghost use Rattle.tg_syntax.specs.Answers.{Gives};
+ghost use Rattle.tg_reading.specs.Answers.{Gives};
 
 use crate::certificates::certificate;
 use crate::declarations::theory;
 use crate::outcomes::outcomes;
-use crate::reader::{Reader, Stop};
 use std::alloc::Global;
 use tg_grammar::{RawCert, RawOutcomes, RawTheory};
+use tg_reading::{Reader, Stop};
 
 /// A theory and outcomes.
 #[tactic(auto, using(crate::proofs::CertificateRules::judge_is))]

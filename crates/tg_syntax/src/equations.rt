@@ -3,16 +3,13 @@ ghost use Rattle.std.specs.Prelude.{◌≡◌, ◌<◌, length, OnOk};
 ghost use Rattle.tg_grammar.specs.Page.{equations};
 ghost use Rattle.tg_grammar.specs.Parts.{Equation};
 ghost use Rattle.tg_grammar.specs.Reading.{reads};
-ghost use Rattle.tg_syntax.specs.Answers.{Gives, by_rule};
+ghost use Rattle.tg_reading.specs.Answers.{Gives, by_rule};
 
-use crate::modes::Mode;
-use crate::patterns::patterns;
-use crate::reader::{Reader, Stop};
-use crate::terms::term;
 use sqlite_items::Items;
 use std::alloc::Global;
 use tg_grammar::RawEq;
 use tg_grammar::kinds::{EQUAL, SEMICOLON};
+use tg_reading::{Growing, Mode, Reader, Stop, patterns, term};
 
 /// A name, patterns, `=`, a term and `;`.
 #[tactic(auto, using(crate::proofs::DeclarationRules::equation_is))]
@@ -34,11 +31,11 @@ pub(crate) fn equations(alloc: Global, reader: &mut Reader) -> Result<Items<RawE
     ensures exact { Gives result reader.new (by_rule equations reader.old) }
     ensures less { OnOk result (length reader.new < length reader.old) }
 {
-    let mut equations = Items::new(alloc);
+    let mut equations = Growing::new(alloc);
     loop {
         equations.push(equation(alloc, reader)?)?;
         if !reader.is_word_next() {
-            return Ok(equations);
+            return Ok(equations.done());
         }
     }
 }

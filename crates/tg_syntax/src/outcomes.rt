@@ -2,11 +2,9 @@
 ghost use Rattle.std.specs.Prelude.{◌≡◌, ◌<◌, ◌≤◌, length, OnOk};
 ghost use Rattle.tg_grammar.specs.Parts as parts;
 ghost use Rattle.tg_grammar.specs.Reading.{reads};
-ghost use Rattle.tg_syntax.specs.Answers.{Gives};
+ghost use Rattle.tg_reading.specs.Answers.{Gives};
 ghost use Rattle.tg_syntax.specs.Outcomes.{setting};
 
-use crate::modes::{Mode, is_atom_next, is_plain_atom_next};
-use crate::reader::{Reader, Stop};
 use sqlite_items::Items;
 use std::alloc::Global;
 use tg_grammar::kinds::{
@@ -14,6 +12,7 @@ use tg_grammar::kinds::{
     OUTCOMES_WORD, RAISED_WORD, SEED_WORD, SEMICOLON, TRIES_WORD, TRUE_WORD, WIDTH_WORD,
 };
 use tg_grammar::{RawItem, RawOutcomes, RawTerm};
+use tg_reading::{Growing, Mode, Reader, Stop, is_atom_next, is_plain_atom_next};
 
 /// `outcomes`, the settings, `begin`, the outcomes and `end`.
 #[tactic(auto, using(crate::proofs::OutcomeRules::outcomes_is))]
@@ -52,11 +51,11 @@ fn items(alloc: Global, reader: &mut Reader) -> Result<Items<RawItem>, Stop>
     ensures exact { Gives result reader.new (reads parts.Items reader.old) }
     ensures less { OnOk result (length reader.new ≤ length reader.old) }
 {
-    let mut items = Items::new(alloc);
+    let mut items = Growing::new(alloc);
     while reader.is_next(&[ANSWER_WORD, RAISED_WORD]) {
         items.push(item(alloc, reader)?)?;
     }
-    Ok(items)
+    Ok(items.done())
 }
 
 /// `answer`, the number of a test, the answer and `;`, or `raised`, the number and `;`.
@@ -115,11 +114,11 @@ fn answer_atoms(alloc: Global, reader: &mut Reader) -> Result<Items<RawTerm>, St
     ensures exact { Gives result reader.new (reads parts.AnswerAtoms reader.old) }
     ensures less { OnOk result (length reader.new ≤ length reader.old) }
 {
-    let mut atoms = Items::new(alloc);
+    let mut atoms = Growing::new(alloc);
     while is_atom_next(Mode::Theory, reader) {
         atoms.push(answer_atom(alloc, reader)?)?;
     }
-    Ok(atoms)
+    Ok(atoms.done())
 }
 
 /// A number, `True`, `False` or an answer in brackets.

@@ -5,13 +5,13 @@ ghost use Rattle.tg_syntax.specs.Parsing.{Parses, TellsTexts, finished, fault_be
 
 use crate::declarations::theory;
 use crate::entries::{theory_and_certificate, theory_and_outcomes};
-use crate::reader::{Reader, Stop};
 use std::alloc::{AllocError, Global};
 use tg_grammar::{RawCert, RawOutcomes, RawTheory, Vocabulary, place};
 use tg_lex::{Token, is_nested};
+use tg_reading::{Reader, Stop};
 
 /// Why the tokens of a text aren't read.
-#[derive(Clone, Copy, Debug, PartialEq, Eq)]
+#[derive(Clone, Copy, Debug)]
 pub enum FormErr {
     /// The load of nesting is above `tg_lex::LOAD_LIMIT` at one of the tokens.
     Nested,

@@ -3,15 +3,9 @@ ghost use Rattle.std.specs.Prelude.{◌≡◌, ◌<◌, ◌≤◌, length, OnOk}
 ghost use Rattle.tg_grammar.specs.Parts.{Step, Context, Numbers};
 ghost use Rattle.tg_grammar.specs.Reading.{reads};
 ghost use Rattle.tg_grammar.specs.Steps.{argument};
-ghost use Rattle.tg_syntax.specs.Answers.{Gives, by_rule};
-ghost use Rattle.tg_syntax.specs.Pieces.{type_atoms_by_commas};
-ghost use Rattle.tg_syntax.specs.Steps.{Adds, arguments_of};
+ghost use Rattle.tg_reading.specs.Answers.{Gives, by_rule};
+ghost use Rattle.tg_syntax.specs.Steps.{Adds, arguments_of, type_atoms_by_commas};
 
-use crate::formulas::formula;
-use crate::modes::Mode;
-use crate::reader::{Reader, Stop};
-use crate::terms::{atom, atoms};
-use crate::types::type_atom;
 use sqlite_items::Items;
 use std::alloc::Global;
 use tg_grammar::kinds::{
@@ -21,6 +15,7 @@ use tg_grammar::kinds::{
     SYM_RULE, THYP_E_RULE, THYP_I_RULE, TRANS_RULE, TRUE_RULE, WEAK_RULE,
 };
 use tg_grammar::{Argument, RawLine, RawTy};
+use tg_reading::{Growing, Mode, Reader, Stop, atom, atoms, formula, type_atom};
 
 /// A rule and its arguments.
 #[tactic(auto, using(crate::proofs::StepRules::step_by, crate::proofs::StepRules::arguments_by))]
@@ -143,11 +138,11 @@ fn type_atoms_by_commas(alloc: Global, reader: &mut Reader) -> Result<Items<RawT
     ensures exact { Gives result reader.new (type_atoms_by_commas reader.old) }
     ensures less { OnOk result (length reader.new < length reader.old) }
 {
-    let mut types = Items::new(alloc);
+    let mut types = Growing::new(alloc);
     loop {
         types.push(type_atom(alloc, reader)?)?;
         if !reader.skips(COMMA) {
-            return Ok(types);
+            return Ok(types.done());
         }
     }
 }
@@ -158,9 +153,9 @@ fn numbers(alloc: Global, reader: &mut Reader) -> Result<Items<u64>, Stop>
     ensures exact { Gives result reader.new (reads Numbers reader.old) }
     ensures less { OnOk result (length reader.new ≤ length reader.old) }
 {
-    let mut numbers = Items::new(alloc);
+    let mut numbers = Growing::new(alloc);
     while let Some(number) = reader.next_number() {
         numbers.push(number)?;
     }
-    Ok(numbers)
+    Ok(numbers.done())
 }

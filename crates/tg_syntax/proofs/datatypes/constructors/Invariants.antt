@@ -1,7 +1,7 @@
 use Rattle.std.proofs.Common.{◌≡◌, ◌≤◌, length}
 use Rattle.tg_rules.specs.Repetition.{with_front}
 use Rattle.tg_grammar.specs.Page.{constructors_of}
-use Rattle.tg_syntax.specs.Answers.{by_rule}
+use Rattle.tg_reading.specs.Answers.{by_rule}
 use Rattle.tg_syntax.proofs.datatypes.constructors.Given as goal
 
 abbrev pub invariant-loop-constructors : goal.invariant-loop-constructors

@@ -1,7 +1,7 @@
 use Rattle.std.proofs.Common.{◌≡◌, ◌≤◌, length}
 use Rattle.tg_rules.specs.Repetition.{with_front}
 use Rattle.tg_grammar.specs.Page.{equations}
-use Rattle.tg_syntax.specs.Answers.{by_rule}
+use Rattle.tg_reading.specs.Answers.{by_rule}
 use Rattle.tg_syntax.proofs.equations.equations.Given as goal
 
 abbrev pub invariant-loop-equations : goal.invariant-loop-equations

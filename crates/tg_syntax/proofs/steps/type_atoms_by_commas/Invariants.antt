@@ -1,6 +1,6 @@
 use Rattle.std.proofs.Common.{◌≡◌, ◌≤◌, length}
 use Rattle.tg_rules.specs.Repetition.{with_front}
-use Rattle.tg_syntax.specs.Pieces.{type_atoms_by_commas}
+use Rattle.tg_syntax.specs.Steps.{type_atoms_by_commas}
 use Rattle.tg_syntax.proofs.steps.type_atoms_by_commas.Given as goal
 
 abbrev pub invariant-loop-types : goal.invariant-loop-types

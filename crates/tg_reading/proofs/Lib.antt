@@ -1,0 +1,9 @@
+pub mod FormulaRules
+pub mod Left
+pub mod PatternRules
+pub mod Repetitions
+pub mod RuleNames
+pub mod Rules
+pub mod TermLists
+pub mod TermRepetitions
+pub mod TermRules

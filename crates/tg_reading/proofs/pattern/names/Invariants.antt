@@ -1,0 +1,14 @@
+use Rattle.std.proofs.Common.{◌≡◌, ◌≤◌, length}
+use Rattle.tg_rules.specs.Repetition.{with_front}
+use Rattle.tg_grammar.specs.Page.{names}
+use Rattle.tg_reading.specs.Answers.{by_rule}
+use Rattle.tg_reading.proofs.pattern.names.Given as goal
+
+abbrev pub invariant-loop-names : goal.invariant-loop-names
+invariant-loop-names l = record {
+  so_far : with_front l.names (by_rule names l.reader) ≡ by_rule names l.fn.reader;
+  shorter : length l.reader ≤ length l.fn.reader;
+}
+
+abbrev pub decreases-loop-names : goal.decreases-loop-names
+decreases-loop-names l = length l.reader

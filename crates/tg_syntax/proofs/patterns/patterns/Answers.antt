@@ -1,6 +1,0 @@
-use Rattle.std.proofs.Common.{rules}
-use Rattle.tg_syntax.proofs.PatternRules.{patterns}
-use Rattle.tg_syntax.proofs.patterns.patterns.Goals as goal
-
-pub returns-in_err-pattern-clause-exact : goal.returns-in_err-pattern-clause-exact
-returns-in_err-pattern-clause-exact c = search (rules, patterns)

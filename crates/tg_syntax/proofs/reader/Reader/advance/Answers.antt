@@ -1,5 +1,0 @@
-use Rattle.tg_syntax.proofs.Left.{advanced}
-use Rattle.tg_syntax.proofs.reader.Reader.advance.Goals as goal
-
-pub returns-then-self : goal.returns-then-self
-returns-then-self c = advanced c.self.inside.vocabulary c.self.inside.bytes.now c.self.inside.tokens.now c.args.self.now c.self.inside.at c.self.view_is
