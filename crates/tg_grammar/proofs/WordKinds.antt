@@ -1,12 +1,12 @@
 -- The kind of a word, from the place where a table has it.
-use Rattle.std.proofs.Common.{◌≡◌, ℕ, zero, suc, ◌<◌, ◌↔◌, ◌⊎◌, true, false, List, [], ◌∷◌, Option, Some, None, length, map, slice_get, get_or, refl, sym, ap, ◌∙◌, inl, inr, arith}
+use Rattle.std.proofs.Common.{◌≡◌, ℕ, zero, suc, ◌<◌, ◌↔◌, ◌⊎◌, true, false, List, [], ◌∷◌, Option, Some, None, length, map, nat_lt, slice_get, get_or, refl, sym, ap, ◌∙◌, inl, inr, arith}
 use Rattle.std.specs.Str.{bytes_eq}
 use Rattle.std.proofs.lemmas.Bool.{cases_Bool}
 use Rattle.std.proofs.lemmas.Slice.Eq.{bytes_eq-Decides}
 use Rattle.tg_tables.specs.declared.row.Row.{Row}
 use Rattle.tg_tables.specs.Rows.{Entry, entries_of, names}
 use Rattle.tg_grammar.specs.Kinds.{other_word}
-use Rattle.tg_grammar.specs.Seen.{code_or, word_kind}
+use Rattle.tg_grammar.specs.Seen.{are_longer, code_or, word_kind}
 
 abbrev codes_in : List Entry → List ℕ
 codes_in es = map (λ e. e.code) es
@@ -76,3 +76,17 @@ kind_of_other es text found finds is = go (stands es text)
     go : Stands es text → other_word ≡ code_or other_word es text
     go (inl (j, at, first)) = let wrong : Some j ≡ None = sym ((finds j).1 at) ∙ is in absurd cc
     go (inr (none, nowhere)) = sym none
+
+-- a word that is too short for the list
+pub short_word : (es : List Entry) (text : List ℕ) → are_longer 1 es ≡ true → length text ≡ 1 → other_word ≡ word_kind es text
+unfolding word_kind
+short_word [] text longer short = refl
+short_word (e ∷ es) text longer short = elim (cases_Bool (nat_lt 1 (length e.name))) [
+  | inl long ↦ elim (cases_Bool (bytes_eq e.name text)) [
+    | inl same ↦
+        let name : e.name ≡ text = (bytes_eq-Decides e.name text).0 same in
+        let wrong : true ≡ false = sym long ∙ ap (λ n. nat_lt 1 (length n)) name ∙ ap (nat_lt 1) short in absurd cc
+    | inr other ↦ rw other (short_word es text (rw long at longer) short)
+  ]
+  | inr not_long ↦ let wrong : false ≡ true = rw not_long at longer in absurd cc
+]

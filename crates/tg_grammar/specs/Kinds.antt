@@ -1,76 +1,77 @@
 -- The kinds of tokens: what the grammar tells apart. A kind is a number, so that a class of tokens is a list of numbers.
 use Rattle.std.specs.Prelude.{ℕ}
+use Rattle.tg_tables.specs.SymbolCodes as symbols
 
 -- ---- A symbol has its code in the table of the symbols.
 
 abbrev pub open_paren : ℕ
-open_paren = 1
+open_paren = symbols.open_paren
 
 abbrev pub close_paren : ℕ
-close_paren = 2
+close_paren = symbols.close_paren
 
 abbrev pub open_brace : ℕ
-open_brace = 3
+open_brace = symbols.open_brace
 
 abbrev pub close_brace : ℕ
-close_brace = 4
+close_brace = symbols.close_brace
 
 abbrev pub open_bracket : ℕ
-open_bracket = 5
+open_bracket = symbols.open_bracket
 
 abbrev pub close_bracket : ℕ
-close_bracket = 6
+close_bracket = symbols.close_bracket
 
 abbrev pub comma : ℕ
-comma = 7
+comma = symbols.comma
 
 abbrev pub semicolon : ℕ
-semicolon = 8
+semicolon = symbols.semicolon
 
 abbrev pub dot : ℕ
-dot = 9
+dot = symbols.dot
 
 abbrev pub equal : ℕ
-equal = 10
+equal = symbols.equal
 
 abbrev pub less : ℕ
-less = 11
+less = symbols.less
 
 abbrev pub less_equal : ℕ
-less_equal = 12
+less_equal = symbols.less_equal
 
 abbrev pub plus : ℕ
-plus = 13
+plus = symbols.plus
 
 abbrev pub minus : ℕ
-minus = 14
+minus = symbols.minus
 
 abbrev pub times : ℕ
-times = 15
+times = symbols.times
 
 abbrev pub and : ℕ
-and = 16
+and = symbols.and
 
 abbrev pub or : ℕ
-or = 17
+or = symbols.or
 
 abbrev pub not : ℕ
-not = 18
+not = symbols.not
 
 abbrev pub arrow : ℕ
-arrow = 19
+arrow = symbols.arrow
 
 abbrev pub double_arrow : ℕ
-double_arrow = 20
+double_arrow = symbols.double_arrow
 
 abbrev pub double_colon : ℕ
-double_colon = 21
+double_colon = symbols.double_colon
 
 abbrev pub question : ℕ
-question = 22
+question = symbols.question
 
 abbrev pub bang : ℕ
-bang = 23
+bang = symbols.bang
 
 -- ---- Type variables and numbers. The grammar tells 0, 1, 2 and the numbers from 3 to 8 from the others.
 

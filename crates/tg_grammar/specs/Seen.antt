@@ -1,5 +1,5 @@
 -- What the grammar sees of a token.
-use Rattle.std.specs.Prelude.{ℕ, ◌+◌, Bool, ◌&&◌, ◌==◌, nat_le, if◌then◌else◌, List, [], ◌∷◌, map, codes}
+use Rattle.std.specs.Prelude.{ℕ, ◌+◌, Bool, true, ◌&&◌, ◌==◌, nat_lt, nat_le, if◌then◌else◌, List, [], ◌∷◌, length, map, codes}
 use Rattle.std.specs.Str.{bytes_eq}
 use Rattle.tg_tables.specs.Rows.{Entry}
 use Rattle.tg_lex.specs.declared.token.Kind.{Kind}
@@ -19,6 +19,11 @@ pub record Seen : Type 0 where
 -- the words that have a kind of their own in an input, with their kinds
 abbrev pub Vocabulary : Type 0
 Vocabulary = List Entry
+
+-- the names in a list have more bytes than this
+abbrev pub are_longer : ℕ → List Entry → Bool
+are_longer n [] = true
+are_longer n (e ∷ es) = nat_lt n (length e.name) && are_longer n es
 
 -- the code that a list has for a text, or the other one where it doesn't have the text
 abbrev pub code_or : ℕ → List Entry → List ℕ → ℕ

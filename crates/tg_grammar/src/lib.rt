@@ -1,6 +1,6 @@
 //! The grammar of the language as data: the raw theories, outcomes and certificates that texts are read
 //! as, what the grammar sees of a token, and the rule of each part. Nothing is read here; a reader is
-//! held against these rules. `specs/Page.antt` has them as they are written on paper, `specs/Table.antt`
+//! held against these rules. `specs/Page.antt` has them in the form that people read, `specs/Table.antt`
 //! in the form that is read with one token of foresight, and the functions `tables`, `texts` and
 //! `reading` have no code: their contracts are the laws.
 #![tactic(auto)]

@@ -282,13 +282,15 @@ pub struct Vocabulary {
 
 impl Model for Vocabulary {
     ghost use Rattle.std.specs.Prelude.{List};
+    ghost use Rattle.std.specs.Prelude.{◌≡◌, true};
     ghost use Rattle.tg_tables.specs.Rows.{Entry, entries_of, names, Rises};
+    ghost use Rattle.tg_grammar.specs.Seen.{are_longer};
 
     ghost Value = { List Entry };
 
     ghost view = { λ v. entries_of v.rows.now };
 
-    ghost invariant = { λ v. Rises (names (entries_of v.rows.now)) };
+    ghost invariant = { λ v. Rises (names (entries_of v.rows.now)) × (are_longer 1 (entries_of v.rows.now) ≡ true) };
 }
 
 impl Vocabulary {
@@ -299,12 +301,17 @@ impl Vocabulary {
         Vocabulary { rows: &VERSION_ONE }
     }
 
-    /// The kind of a word. It is looked up by halving.
+    /// The kind of a word. It is looked up by halving, unless it has one byte alone, as many names have and
+    /// no word of a vocabulary.
     pub(crate) fn kind(&self, word: &[u8]) -> u32
         ensures { result ≡ word_kind self.now word.now }
     {
-        match find_row(self.rows, word) {
-            Some(at) => code_at(self.rows, at),
+        let rows = self.rows;
+        if word.len() == 1 {
+            return OTHER_WORD;
+        }
+        match find_row(rows, word) {
+            Some(at) => code_at(rows, at),
             None => OTHER_WORD,
         }
     }

@@ -1,6 +1,7 @@
 -- The load of nesting: a fold over the tokens, with a list of counters that begins as one 0.
 use Rattle.std.specs.Prelude.{ℕ, ◌+◌, ◌-◌, Bool, false, ◌||◌, ◌&&◌, ◌==◌, nat_lt, nat_le, if◌then◌else◌, List, [], ◌∷◌, ◌++◌, length, take, map, sum, slice_index, slice_range, codes}
 use Rattle.std.specs.Str.{bytes_eq}
+use Rattle.tg_tables.specs.SymbolCodes as symbols
 use Rattle.tg_lex.specs.declared.token.Token.{Token}
 use Rattle.tg_lex.specs.declared.load.TheConstants.{LOAD_LIMIT}
 use Rattle.tg_lex.specs.declared.load.Effect.{Effect}
@@ -69,9 +70,11 @@ load_passes limit bytes tokens = passes limit (0 ∷ []) (map (text_of bytes) to
 
 abbrev pub symbol_effect : ℕ → Effect
 symbol_effect code =
-    if 1 == code then Opens else if 2 == code then Closes else if 3 == code then Opens else if 4 == code then Closes
-    else if 5 == code then Opens else if 6 == code then Closes else if 7 == code then Resets else if 8 == code then Resets
-    else if nat_le 10 code && nat_le code 19 then Counts else Nothing
+    if symbols.open_paren == code then Opens else if symbols.close_paren == code then Closes
+    else if symbols.open_brace == code then Opens else if symbols.close_brace == code then Closes
+    else if symbols.open_bracket == code then Opens else if symbols.close_bracket == code then Closes
+    else if symbols.comma == code then Resets else if symbols.semicolon == code then Resets
+    else if nat_le symbols.equal code && nat_le code symbols.arrow then Counts else Nothing
 
 abbrev pub word_effect : List ℕ → Effect
 word_effect text = if is_counted_word text then Counts else Nothing

@@ -6,6 +6,7 @@ use Rattle.tg_lex.specs.declared.part.Part.{Part}
 use Rattle.tg_lex.specs.declared.part.Part.TheVariants.{Skip, Token}
 use Rattle.tg_lex.specs.declared.part.Fault.{Fault}
 use Rattle.tg_lex.specs.declared.part.Fault.TheVariants as faults
+use Rattle.tg_tables.specs.SymbolCodes as symbols
 use Rattle.tg_lex.specs.Bytes.{is_blank, is_letter, is_digit, is_name_byte}
 use Rattle.tg_lex.specs.Grammar.{value, opens, after_comment}
 
@@ -21,11 +22,11 @@ is_arrow (b ∷ bs) = 45 == b && next_is 62 bs
 -- the code of a symbol of one byte
 abbrev pub one_byte : ℕ → Option ℕ
 one_byte b =
-    if 33 == b then Some 23 else if 38 == b then Some 16 else if 40 == b then Some 1 else if 41 == b then Some 2
-    else if 42 == b then Some 15 else if 43 == b then Some 13 else if 44 == b then Some 7 else if 45 == b then Some 14
-    else if 46 == b then Some 9 else if 59 == b then Some 8 else if 60 == b then Some 11 else if 61 == b then Some 10
-    else if 63 == b then Some 22 else if 91 == b then Some 5 else if 93 == b then Some 6 else if 123 == b then Some 3
-    else if 124 == b then Some 17 else if 125 == b then Some 4 else if 126 == b then Some 18 else None
+    if 33 == b then Some symbols.bang else if 38 == b then Some symbols.and else if 40 == b then Some symbols.open_paren else if 41 == b then Some 2
+    else if 42 == b then Some symbols.times else if 43 == b then Some symbols.plus else if 44 == b then Some symbols.comma else if 45 == b then Some 14
+    else if 46 == b then Some symbols.dot else if 59 == b then Some symbols.semicolon else if 60 == b then Some symbols.less else if 61 == b then Some 10
+    else if 63 == b then Some symbols.question else if 91 == b then Some symbols.open_bracket else if 93 == b then Some symbols.close_bracket else if 123 == b then Some 3
+    else if 124 == b then Some symbols.or else if 125 == b then Some symbols.close_brace else if 126 == b then Some symbols.not else None
 
 abbrev pub sized_one : Option ℕ → Option (ℕ × ℕ)
 sized_one None = None
@@ -34,10 +35,10 @@ sized_one (Some code) = Some (code, 1)
 -- the longest symbol that begins with `b` and goes on in the bytes after it: its code and size
 unfoldable pub symbol_of : ℕ → List ℕ → Option (ℕ × ℕ)
 symbol_of b bs =
-    if 45 == b && is_arrow bs then Some (19, 3)
-    else if 60 == b && next_is 61 bs then Some (12, 2)
-    else if 61 == b && next_is 62 bs then Some (20, 2)
-    else if 58 == b && next_is 58 bs then Some (21, 2)
+    if 45 == b && is_arrow bs then Some (symbols.arrow, 3)
+    else if 60 == b && next_is 61 bs then Some (symbols.less_equal, 2)
+    else if 61 == b && next_is 62 bs then Some (symbols.double_arrow, 2)
+    else if 58 == b && next_is 58 bs then Some (symbols.double_colon, 2)
     else sized_one (one_byte b)
 
 abbrev pub symbol_part : Option (ℕ × ℕ) → Result Part Fault

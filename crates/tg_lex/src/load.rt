@@ -5,6 +5,10 @@ ghost use Rattle.tg_lex.specs.Load.{is_counted_word, symbol_effect, word_effect,
 use crate::token::{Kind, Token};
 use std::alloc::{AllocError, Global};
 use std::marker::Model;
+use tg_tables::symbol_codes::{
+    ARROW, CLOSE_BRACE, CLOSE_BRACKET, CLOSE_PAREN, COMMA, EQUAL, OPEN_BRACE, OPEN_BRACKET,
+    OPEN_PAREN, SEMICOLON,
+};
 
 /// The load of nesting that a text may have.
 pub const LOAD_LIMIT: u32 = 400;
@@ -120,10 +124,10 @@ fn symbol_effect(code: u32) -> Effect
     ensures { result ≡ symbol_effect code }
 {
     match code {
-        1 | 3 | 5 => Effect::Opens,
-        2 | 4 | 6 => Effect::Closes,
-        7 | 8 => Effect::Resets,
-        10..=19 => Effect::Counts,
+        OPEN_PAREN | OPEN_BRACE | OPEN_BRACKET => Effect::Opens,
+        CLOSE_PAREN | CLOSE_BRACE | CLOSE_BRACKET => Effect::Closes,
+        COMMA | SEMICOLON => Effect::Resets,
+        EQUAL..=ARROW => Effect::Counts,
         _ => Effect::Nothing,
     }
 }

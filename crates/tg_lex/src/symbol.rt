@@ -3,6 +3,11 @@ ghost use Rattle.tg_lex.specs.Scan.{next_is, is_arrow, one_byte, symbol_of, symb
 
 use crate::part::{Fault, Part};
 use crate::token::Kind;
+use tg_tables::symbol_codes::{
+    AND, ARROW, BANG, CLOSE_BRACE, CLOSE_BRACKET, CLOSE_PAREN, COMMA, DOT, DOUBLE_ARROW,
+    DOUBLE_COLON, EQUAL, LESS, LESS_EQUAL, MINUS, NOT, OPEN_BRACE, OPEN_BRACKET, OPEN_PAREN, OR,
+    PLUS, QUESTION, SEMICOLON, TIMES,
+};
 
 // The longest symbol that begins with `first` and goes on in `after`: its code and how many bytes it has.
 #[tactic(auto, unfolding(crate::specs::Scan::symbol_of))]
@@ -10,13 +15,13 @@ pub(crate) fn symbol(first: u8, after: &[u8]) -> Option<(u32, usize)>
     ensures { result ≡ symbol_of first after.now }
 {
     if first == b'-' && is_arrow(after) {
-        Some((19, 3))
+        Some((ARROW, 3))
     } else if first == b'<' && next_is(after, b'=') {
-        Some((12, 2))
+        Some((LESS_EQUAL, 2))
     } else if first == b'=' && next_is(after, b'>') {
-        Some((20, 2))
+        Some((DOUBLE_ARROW, 2))
     } else if first == b':' && next_is(after, b':') {
-        Some((21, 2))
+        Some((DOUBLE_COLON, 2))
     } else {
         match one_byte(first) {
             Some(code) => Some((code, 1)),
@@ -58,25 +63,25 @@ fn one_byte(byte: u8) -> Option<u32>
     ensures { result ≡ one_byte byte }
 {
     match byte {
-        b'(' => Some(1),
-        b')' => Some(2),
-        b'{' => Some(3),
-        b'}' => Some(4),
-        b'[' => Some(5),
-        b']' => Some(6),
-        b',' => Some(7),
-        b';' => Some(8),
-        b'.' => Some(9),
-        b'=' => Some(10),
-        b'<' => Some(11),
-        b'+' => Some(13),
-        b'-' => Some(14),
-        b'*' => Some(15),
-        b'&' => Some(16),
-        b'|' => Some(17),
-        b'~' => Some(18),
-        b'?' => Some(22),
-        b'!' => Some(23),
+        b'(' => Some(OPEN_PAREN),
+        b')' => Some(CLOSE_PAREN),
+        b'{' => Some(OPEN_BRACE),
+        b'}' => Some(CLOSE_BRACE),
+        b'[' => Some(OPEN_BRACKET),
+        b']' => Some(CLOSE_BRACKET),
+        b',' => Some(COMMA),
+        b';' => Some(SEMICOLON),
+        b'.' => Some(DOT),
+        b'=' => Some(EQUAL),
+        b'<' => Some(LESS),
+        b'+' => Some(PLUS),
+        b'-' => Some(MINUS),
+        b'*' => Some(TIMES),
+        b'&' => Some(AND),
+        b'|' => Some(OR),
+        b'~' => Some(NOT),
+        b'?' => Some(QUESTION),
+        b'!' => Some(BANG),
         _ => None,
     }
 }

@@ -154,6 +154,7 @@ fn implication(alloc: Global, mode: Mode, reader: &mut Reader) -> Result<RawTerm
 /// A conjunction, or a conjunction `|` disjunction.
 #[cycle(terms)]
 #[tactic(auto, using(crate::proofs::TermRules::disjunction_is))]
+#[inline(always)]
 fn disjunction(alloc: Global, mode: Mode, reader: &mut Reader) -> Result<RawTerm, Stop>
     ensures exact { Gives result reader.new (reads (Disjunction (mode_view mode)) reader.old) }
     ensures less { OnOk result (length reader.new < length reader.old) }
@@ -169,6 +170,7 @@ fn disjunction(alloc: Global, mode: Mode, reader: &mut Reader) -> Result<RawTerm
 /// A negation, or a negation `&` conjunction.
 #[cycle(terms)]
 #[tactic(auto, using(crate::proofs::TermRules::conjunction_is))]
+#[inline(always)]
 fn conjunction(alloc: Global, mode: Mode, reader: &mut Reader) -> Result<RawTerm, Stop>
     ensures exact { Gives result reader.new (reads (Conjunction (mode_view mode)) reader.old) }
     ensures less { OnOk result (length reader.new < length reader.old) }
@@ -184,6 +186,7 @@ fn conjunction(alloc: Global, mode: Mode, reader: &mut Reader) -> Result<RawTerm
 /// `~` negation, or a comparison.
 #[cycle(terms)]
 #[tactic(auto, using(crate::proofs::TermRules::negation_is))]
+#[inline(always)]
 fn negation(alloc: Global, mode: Mode, reader: &mut Reader) -> Result<RawTerm, Stop>
     ensures exact { Gives result reader.new (reads (Negation (mode_view mode)) reader.old) }
     ensures less { OnOk result (length reader.new < length reader.old) }
@@ -198,6 +201,7 @@ fn negation(alloc: Global, mode: Mode, reader: &mut Reader) -> Result<RawTerm, S
 /// A sum, or a sum, `=`, `<` or `<=`, and a sum.
 #[cycle(terms)]
 #[tactic(auto, using(crate::proofs::TermRules::comparison_is))]
+#[inline(always)]
 fn comparison(alloc: Global, mode: Mode, reader: &mut Reader) -> Result<RawTerm, Stop>
     ensures exact { Gives result reader.new (reads (Comparison (mode_view mode)) reader.old) }
     ensures less { OnOk result (length reader.new < length reader.old) }
@@ -215,6 +219,7 @@ fn comparison(alloc: Global, mode: Mode, reader: &mut Reader) -> Result<RawTerm,
 /// Products with `+` or `-` between them, grouped to the left.
 #[cycle(terms)]
 #[tactic(auto, using(crate::proofs::TermRepetitions::sum_by))]
+#[inline(always)]
 fn sum(alloc: Global, mode: Mode, reader: &mut Reader) -> Result<RawTerm, Stop>
     ensures exact { Gives result reader.new (reads (Sum (mode_view mode)) reader.old) }
     ensures less { OnOk result (length reader.new < length reader.old) }
@@ -261,6 +266,7 @@ fn summand(
 /// Applications with `*`, `div` or `mod` between them, grouped to the left.
 #[cycle(terms)]
 #[tactic(auto, using(crate::proofs::TermRepetitions::product_by))]
+#[inline(always)]
 fn product(alloc: Global, mode: Mode, reader: &mut Reader) -> Result<RawTerm, Stop>
     ensures exact { Gives result reader.new (reads (Product (mode_view mode)) reader.old) }
     ensures less { OnOk result (length reader.new < length reader.old) }

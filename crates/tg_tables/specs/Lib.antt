@@ -1,3 +1,4 @@
 pub mod Rows
+pub mod SymbolCodes
 pub mod Lists
 pub mod KnownValues

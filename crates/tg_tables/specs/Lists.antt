@@ -1,6 +1,8 @@
 -- The reserved words and the symbols, each with its place in the list of the language.
 use Rattle.std.specs.Prelude.{List, [], ◌∷◌, codes}
 use Rattle.tg_tables.specs.Rows.{Entry, entry}
+use Rattle.tg_tables.specs.SymbolCodes.{open_paren, close_paren, open_brace, close_brace, open_bracket, close_bracket, comma, semicolon, dot, equal, less}
+use Rattle.tg_tables.specs.SymbolCodes.{less_equal, plus, minus, times, and, or, not, arrow, double_arrow, double_colon, question, bang}
 
 -- the reserved words, in the order of their bytes
 abbrev pub reserved_words : List Entry
@@ -34,27 +36,27 @@ reserved_words = entry (codes "False") 24
 
 -- the symbols, in the order of their bytes
 abbrev pub symbol_list : List Entry
-symbol_list = entry (codes "!") 23
-    ∷ entry (codes "&") 16
-    ∷ entry (codes "(") 1
-    ∷ entry (codes ")") 2
-    ∷ entry (codes "*") 15
-    ∷ entry (codes "+") 13
-    ∷ entry (codes ",") 7
-    ∷ entry (codes "-") 14
-    ∷ entry (codes "-->") 19
-    ∷ entry (codes ".") 9
-    ∷ entry (codes "::") 21
-    ∷ entry (codes ";") 8
-    ∷ entry (codes "<") 11
-    ∷ entry (codes "<=") 12
-    ∷ entry (codes "=") 10
-    ∷ entry (codes "=>") 20
-    ∷ entry (codes "?") 22
-    ∷ entry (codes "[") 5
-    ∷ entry (codes "]") 6
-    ∷ entry (codes "{") 3
-    ∷ entry (codes "|") 17
-    ∷ entry (codes "}") 4
-    ∷ entry (codes "~") 18
+symbol_list = entry (codes "!") bang
+    ∷ entry (codes "&") and
+    ∷ entry (codes "(") open_paren
+    ∷ entry (codes ")") close_paren
+    ∷ entry (codes "*") times
+    ∷ entry (codes "+") plus
+    ∷ entry (codes ",") comma
+    ∷ entry (codes "-") minus
+    ∷ entry (codes "-->") arrow
+    ∷ entry (codes ".") dot
+    ∷ entry (codes "::") double_colon
+    ∷ entry (codes ";") semicolon
+    ∷ entry (codes "<") less
+    ∷ entry (codes "<=") less_equal
+    ∷ entry (codes "=") equal
+    ∷ entry (codes "=>") double_arrow
+    ∷ entry (codes "?") question
+    ∷ entry (codes "[") open_bracket
+    ∷ entry (codes "]") close_bracket
+    ∷ entry (codes "{") open_brace
+    ∷ entry (codes "|") or
+    ∷ entry (codes "}") close_brace
+    ∷ entry (codes "~") not
     ∷ []

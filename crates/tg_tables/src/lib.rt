@@ -4,6 +4,7 @@
 #![tactic(auto)]
 
 mod row;
+pub mod symbol_codes;
 mod symbol_list;
 mod table;
 #[cfg(test)]

@@ -2,78 +2,109 @@ ghost use Rattle.std.specs.Prelude.{◌≡◌};
 ghost use Rattle.tg_tables.specs.Lists.{symbol_list};
 
 use crate::row::Row;
+use crate::symbol_codes::{
+    AND, ARROW, BANG, CLOSE_BRACE, CLOSE_BRACKET, CLOSE_PAREN, COMMA, DOT, DOUBLE_ARROW,
+    DOUBLE_COLON, EQUAL, LESS, LESS_EQUAL, MINUS, NOT, OPEN_BRACE, OPEN_BRACKET, OPEN_PAREN, OR,
+    PLUS, QUESTION, SEMICOLON, TIMES,
+};
 use crate::table::Table;
 
 /// How many symbols there are.
 pub const SYMBOL_COUNT: usize = 23;
 
-/// The symbols. A symbol's code is its place in the list `( ) { } [ ] , ; . = < <= + - * & | ~ -->
-/// => :: ? !`.
+/// The symbols and their codes.
 pub static SYMBOL_ROWS: [Row; SYMBOL_COUNT] = [
     Row {
         name: "!",
-        code: 23,
+        code: BANG,
     },
     Row {
         name: "&",
-        code: 16,
+        code: AND,
     },
-    Row { name: "(", code: 1 },
-    Row { name: ")", code: 2 },
+    Row {
+        name: "(",
+        code: OPEN_PAREN,
+    },
+    Row {
+        name: ")",
+        code: CLOSE_PAREN,
+    },
     Row {
         name: "*",
-        code: 15,
+        code: TIMES,
     },
     Row {
         name: "+",
-        code: 13,
+        code: PLUS,
     },
-    Row { name: ",", code: 7 },
+    Row {
+        name: ",",
+        code: COMMA,
+    },
     Row {
         name: "-",
-        code: 14,
+        code: MINUS,
     },
     Row {
         name: "-->",
-        code: 19,
+        code: ARROW,
     },
-    Row { name: ".", code: 9 },
+    Row {
+        name: ".",
+        code: DOT,
+    },
     Row {
         name: "::",
-        code: 21,
+        code: DOUBLE_COLON,
     },
-    Row { name: ";", code: 8 },
+    Row {
+        name: ";",
+        code: SEMICOLON,
+    },
     Row {
         name: "<",
-        code: 11,
+        code: LESS,
     },
     Row {
         name: "<=",
-        code: 12,
+        code: LESS_EQUAL,
     },
     Row {
         name: "=",
-        code: 10,
+        code: EQUAL,
     },
     Row {
         name: "=>",
-        code: 20,
+        code: DOUBLE_ARROW,
     },
     Row {
         name: "?",
-        code: 22,
+        code: QUESTION,
     },
-    Row { name: "[", code: 5 },
-    Row { name: "]", code: 6 },
-    Row { name: "{", code: 3 },
+    Row {
+        name: "[",
+        code: OPEN_BRACKET,
+    },
+    Row {
+        name: "]",
+        code: CLOSE_BRACKET,
+    },
+    Row {
+        name: "{",
+        code: OPEN_BRACE,
+    },
     Row {
         name: "|",
-        code: 17,
+        code: OR,
     },
-    Row { name: "}", code: 4 },
+    Row {
+        name: "}",
+        code: CLOSE_BRACE,
+    },
     Row {
         name: "~",
-        code: 18,
+        code: NOT,
     },
 ];
 
