@@ -1,5 +1,6 @@
 -- What answers mean to the caller of the program.
 use Rattle.std.specs.Prelude.{ℕ, List, ◌++◌, codes, decimal}
+use Rattle.tg_lex.specs.Load.{load_limit}
 use Rattle.tg_cmd.specs.declared.answer.Answer.{Answer}
 use Rattle.tg_cmd.specs.declared.answer.Answer.TheVariants.{Done, TestsFailed, Usage, ReadFault, WriteFault, Memory, Refused, Limit}
 use Rattle.tg_cmd.specs.declared.answer.Ending.{Ending}
@@ -27,7 +28,7 @@ refusal_line (Form place) = codes "refused form at declaration " ++ (decimal pla
 abbrev pub limit_line : LimitName → List ℕ
 limit_line Input = codes "limit input 16777216\n"
 limit_line Number = codes "limit number 18446744073709551615\n"
-limit_line Nesting = codes "limit nesting 400\n"
+limit_line Nesting = codes "limit nesting " ++ (decimal load_limit ++ codes "\n")
 
 -- once the output was written
 abbrev pub answer_after : Ending → Answer

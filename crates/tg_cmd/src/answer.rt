@@ -2,6 +2,7 @@ ghost use Rattle.std.specs.Prelude.{◌≡◌, ◌++◌, OnOk};
 ghost use Rattle.tg_cmd.specs.Answers.{status_of, refusal_line, limit_line};
 
 use std::alloc::AllocError;
+use tg_lex::LOAD_LIMIT;
 use tg_text::Part::{Number, Text};
 use tg_text::put;
 use thiserror::Error;
@@ -54,8 +55,8 @@ pub enum LimitName {
     /// A number of 2^64 or more.
     #[error("limit number 18446744073709551615")]
     Number,
-    /// A load of nesting above 400.
-    #[error("limit nesting 400")]
+    /// A load of nesting above [`LOAD_LIMIT`].
+    #[error("limit nesting {}", LOAD_LIMIT)]
     Nesting,
 }
 
@@ -111,6 +112,13 @@ pub(crate) fn put_limit(out: &mut Vec<u8>, name: LimitName) -> Result<(), AllocE
     match name {
         LimitName::Input => put(out, &[Text(b"limit input 16777216\n")]),
         LimitName::Number => put(out, &[Text(b"limit number 18446744073709551615\n")]),
-        LimitName::Nesting => put(out, &[Text(b"limit nesting 400\n")]),
+        LimitName::Nesting => put(
+            out,
+            &[
+                Text(b"limit nesting "),
+                Number(u64::from(LOAD_LIMIT)),
+                Text(b"\n"),
+            ],
+        ),
     }
 }

@@ -31,7 +31,7 @@ pub(crate) struct Form<'a> {
 }
 
 /// The two sides of a comparison.
-#[derive(Clone, Copy, Debug)]
+#[derive(Clone, Copy)]
 struct Compared<'a> {
     relation: Relation,
     left: &'a RawTerm,
