@@ -5,8 +5,8 @@ use sqlite_items::Items;
 use std::alloc::{AllocError, Global};
 use std::marker::Model;
 
-/// A list that is being read. Once it is done it takes no more room than it needs, since a text has many
-/// lists and most of them are short.
+/// A list that is being read. Most lists have one item or two, and take room for no more. Once a longer one is
+/// done it is cut to its length.
 #[derive(Drop)]
 pub struct Growing<T> {
     items: Vec<T>,
@@ -34,6 +34,9 @@ impl<T: Drop> Growing<T> {
     pub fn push(&mut self, item: T) -> Result<(), AllocError>
         ensures { OnOk result (self.new ≡ self.old ++ item ∷ []) }
     {
+        if self.items.len() < 2 {
+            self.items.reserve_exact(1)?;
+        }
         self.items.push(item)?;
         Ok(())
     }
