@@ -1,9 +1,7 @@
 -- The terms of a conditional, a binding and a case distinction are read into a list, one after another.
-use Rattle.std.proofs.Common.{◌≡◌, ℕ, List, [], ◌∷◌, ◌++◌, refl, ◌∙◌}
+use Rattle.std.proofs.Common.{◌≡◌, List, [], ◌∷◌, ◌++◌, refl, ◌∙◌}
 use Rattle.tg_rules.specs.Rule.{nt, ◌∙∙◌}
 use Rattle.tg_rules.specs.Reader.{Read, ok, err, out, mapped, followed, token_at}
-use Rattle.tg_grammar.specs.declared.terms.Binder.{Binder}
-use Rattle.tg_grammar.specs.declared.terms.RawBranch.{RawBranch}
 use Rattle.tg_grammar.specs.declared.terms.RawTerm.{RawTerm}
 use Rattle.tg_grammar.specs.declared.terms.RawTerm.TheVariants as terms
 use Rattle.tg_grammar.specs.Kinds.{if_word, then_word, else_word, let_word, equal, in_word, case_word}
