@@ -17,27 +17,25 @@ use crate::operators::{comparison_operator, product_operator, sum_operator};
 use crate::reader::{Reader, Stop};
 use sqlite_items::Items;
 use std::alloc::Global;
-use tg_grammar::kinds::{
-    AND, ARROW, CASE_WORD, CLOSE_BRACE, CLOSE_PAREN, COMMA, DOUBLE_ARROW, ELSE_WORD, EQUAL,
-    FALSE_WORD, IF_WORD, IN_WORD, LET_WORD, NOT, OF_WORD, OPEN_BRACE, OPEN_PAREN, OR, SUC_WORD,
-    THEN_WORD, TRUE_WORD,
-};
-use tg_grammar::{RawBranch, RawTerm, operators};
+use tg_grammar::{RawBranch, RawTerm, kinds, operators};
+
+/// A term, or why none is read.
+type ReadTerm = Result<RawTerm, Stop>;
 
 /// A conditional, a binding, a case distinction or an implication.
 #[cycle(terms)]
 #[tactic(auto, using(crate::proofs::TermRules::term_is))]
-pub fn term(alloc: Global, mode: Mode, reader: &mut Reader) -> Result<RawTerm, Stop>
+pub fn term(alloc: Global, mode: Mode, reader: &mut Reader) -> ReadTerm
     ensures exact { Gives result reader.new (reads (Term (mode_view mode)) reader.old) }
     ensures less { OnOk result (length reader.new < length reader.old) }
 {
-    if reader.is_next(&[IF_WORD]) {
+    if reader.is_next(&[kinds::IF_WORD]) {
         return conditional(alloc, mode, reader);
     }
-    if reader.is_next(&[LET_WORD]) {
+    if reader.is_next(&[kinds::LET_WORD]) {
         return binding(alloc, mode, reader);
     }
-    if reader.is_next(&[CASE_WORD]) {
+    if reader.is_next(&[kinds::CASE_WORD]) {
         return cases(alloc, mode, reader);
     }
     implication(alloc, mode, reader)
@@ -46,45 +44,45 @@ pub fn term(alloc: Global, mode: Mode, reader: &mut Reader) -> Result<RawTerm, S
 /// `if` condition `then` term `else` term.
 #[cycle(terms)]
 #[tactic(auto, using(crate::proofs::TermLists::conditional_by))]
-fn conditional(alloc: Global, mode: Mode, reader: &mut Reader) -> Result<RawTerm, Stop>
+fn conditional(alloc: Global, mode: Mode, reader: &mut Reader) -> ReadTerm
     ensures exact { Gives result reader.new (by_rule (conditional (mode_view mode)) reader.old) }
     ensures less { OnOk result (length reader.new < length reader.old) }
 {
     let mut parts = with_room(alloc, 3)?;
-    add_term(alloc, mode, reader, IF_WORD, &mut parts)?;
-    add_term(alloc, mode, reader, THEN_WORD, &mut parts)?;
-    add_term(alloc, mode, reader, ELSE_WORD, &mut parts)?;
+    add_term(alloc, mode, reader, kinds::IF_WORD, &mut parts)?;
+    add_term(alloc, mode, reader, kinds::THEN_WORD, &mut parts)?;
+    add_term(alloc, mode, reader, kinds::ELSE_WORD, &mut parts)?;
     Ok(RawTerm::If(parts))
 }
 
 /// `let` variable `=` term `in` term.
 #[cycle(terms)]
 #[tactic(auto, using(crate::proofs::TermLists::binding_by))]
-fn binding(alloc: Global, mode: Mode, reader: &mut Reader) -> Result<RawTerm, Stop>
+fn binding(alloc: Global, mode: Mode, reader: &mut Reader) -> ReadTerm
     ensures exact { Gives result reader.new (by_rule (binding (mode_view mode)) reader.old) }
     ensures less { OnOk result (length reader.new < length reader.old) }
 {
-    reader.take(LET_WORD)?;
+    reader.take(kinds::LET_WORD)?;
     let binder = variable(alloc, mode, reader)?;
     let mut parts = with_room(alloc, 2)?;
-    add_term(alloc, mode, reader, EQUAL, &mut parts)?;
-    add_term(alloc, mode, reader, IN_WORD, &mut parts)?;
+    add_term(alloc, mode, reader, kinds::EQUAL, &mut parts)?;
+    add_term(alloc, mode, reader, kinds::IN_WORD, &mut parts)?;
     Ok(RawTerm::Let(binder, parts))
 }
 
 /// `case` term `of` `{` branches, with commas between them `}`.
 #[cycle(terms)]
 #[tactic(auto, using(crate::proofs::TermLists::cases_by))]
-fn cases(alloc: Global, mode: Mode, reader: &mut Reader) -> Result<RawTerm, Stop>
+fn cases(alloc: Global, mode: Mode, reader: &mut Reader) -> ReadTerm
     ensures exact { Gives result reader.new (by_rule (cases (mode_view mode)) reader.old) }
     ensures less { OnOk result (length reader.new < length reader.old) }
 {
     let mut subject = with_room(alloc, 1)?;
-    add_term(alloc, mode, reader, CASE_WORD, &mut subject)?;
-    reader.take(OF_WORD)?;
-    reader.take(OPEN_BRACE)?;
+    add_term(alloc, mode, reader, kinds::CASE_WORD, &mut subject)?;
+    reader.take(kinds::OF_WORD)?;
+    reader.take(kinds::OPEN_BRACE)?;
     let branches = branches(alloc, mode, reader)?;
-    reader.take(CLOSE_BRACE)?;
+    reader.take(kinds::CLOSE_BRACE)?;
     Ok(RawTerm::Case(subject, branches))
 }
 
@@ -115,7 +113,7 @@ fn branch(alloc: Global, mode: Mode, reader: &mut Reader) -> Result<RawBranch, S
     ensures less { OnOk result (length reader.new < length reader.old) }
 {
     let (con, vars) = branch_head(alloc, mode, reader)?;
-    reader.take(DOUBLE_ARROW)?;
+    reader.take(kinds::DOUBLE_ARROW)?;
     let body = term(alloc, mode, reader)?;
     Ok(RawBranch { con, vars, body })
 }
@@ -130,7 +128,7 @@ fn branches(alloc: Global, mode: Mode, reader: &mut Reader) -> Result<Items<RawB
     let mut branches = Growing::new(alloc);
     loop {
         branches.push(branch(alloc, mode, reader)?)?;
-        if !reader.skips(COMMA) {
+        if !reader.skips(kinds::COMMA) {
             return Ok(branches.done());
         }
     }
@@ -139,12 +137,12 @@ fn branches(alloc: Global, mode: Mode, reader: &mut Reader) -> Result<Items<RawB
 /// A disjunction, or a disjunction `-->` implication.
 #[cycle(terms)]
 #[tactic(auto, using(crate::proofs::TermRules::implication_is))]
-fn implication(alloc: Global, mode: Mode, reader: &mut Reader) -> Result<RawTerm, Stop>
+fn implication(alloc: Global, mode: Mode, reader: &mut Reader) -> ReadTerm
     ensures exact { Gives result reader.new (reads (Implication (mode_view mode)) reader.old) }
     ensures less { OnOk result (length reader.new < length reader.old) }
 {
     let left = disjunction(alloc, mode, reader)?;
-    if !reader.skips(ARROW) {
+    if !reader.skips(kinds::ARROW) {
         return Ok(left);
     }
     let right = implication(alloc, mode, reader)?;
@@ -155,12 +153,12 @@ fn implication(alloc: Global, mode: Mode, reader: &mut Reader) -> Result<RawTerm
 #[cycle(terms)]
 #[tactic(auto, using(crate::proofs::TermRules::disjunction_is))]
 #[inline(always)]
-fn disjunction(alloc: Global, mode: Mode, reader: &mut Reader) -> Result<RawTerm, Stop>
+fn disjunction(alloc: Global, mode: Mode, reader: &mut Reader) -> ReadTerm
     ensures exact { Gives result reader.new (reads (Disjunction (mode_view mode)) reader.old) }
     ensures less { OnOk result (length reader.new < length reader.old) }
 {
     let left = conjunction(alloc, mode, reader)?;
-    if !reader.skips(OR) {
+    if !reader.skips(kinds::OR) {
         return Ok(left);
     }
     let right = disjunction(alloc, mode, reader)?;
@@ -171,12 +169,12 @@ fn disjunction(alloc: Global, mode: Mode, reader: &mut Reader) -> Result<RawTerm
 #[cycle(terms)]
 #[tactic(auto, using(crate::proofs::TermRules::conjunction_is))]
 #[inline(always)]
-fn conjunction(alloc: Global, mode: Mode, reader: &mut Reader) -> Result<RawTerm, Stop>
+fn conjunction(alloc: Global, mode: Mode, reader: &mut Reader) -> ReadTerm
     ensures exact { Gives result reader.new (reads (Conjunction (mode_view mode)) reader.old) }
     ensures less { OnOk result (length reader.new < length reader.old) }
 {
     let left = negation(alloc, mode, reader)?;
-    if !reader.skips(AND) {
+    if !reader.skips(kinds::AND) {
         return Ok(left);
     }
     let right = conjunction(alloc, mode, reader)?;
@@ -187,11 +185,11 @@ fn conjunction(alloc: Global, mode: Mode, reader: &mut Reader) -> Result<RawTerm
 #[cycle(terms)]
 #[tactic(auto, using(crate::proofs::TermRules::negation_is))]
 #[inline(always)]
-fn negation(alloc: Global, mode: Mode, reader: &mut Reader) -> Result<RawTerm, Stop>
+fn negation(alloc: Global, mode: Mode, reader: &mut Reader) -> ReadTerm
     ensures exact { Gives result reader.new (reads (Negation (mode_view mode)) reader.old) }
     ensures less { OnOk result (length reader.new < length reader.old) }
 {
-    if reader.skips(NOT) {
+    if reader.skips(kinds::NOT) {
         let operand = negation(alloc, mode, reader)?;
         return Ok(RawTerm::Op(operators::NOT, one(alloc, operand)?));
     }
@@ -202,7 +200,7 @@ fn negation(alloc: Global, mode: Mode, reader: &mut Reader) -> Result<RawTerm, S
 #[cycle(terms)]
 #[tactic(auto, using(crate::proofs::TermRules::comparison_is))]
 #[inline(always)]
-fn comparison(alloc: Global, mode: Mode, reader: &mut Reader) -> Result<RawTerm, Stop>
+fn comparison(alloc: Global, mode: Mode, reader: &mut Reader) -> ReadTerm
     ensures exact { Gives result reader.new (reads (Comparison (mode_view mode)) reader.old) }
     ensures less { OnOk result (length reader.new < length reader.old) }
 {
@@ -220,7 +218,7 @@ fn comparison(alloc: Global, mode: Mode, reader: &mut Reader) -> Result<RawTerm,
 #[cycle(terms)]
 #[tactic(auto, using(crate::proofs::TermRepetitions::sum_by))]
 #[inline(always)]
-fn sum(alloc: Global, mode: Mode, reader: &mut Reader) -> Result<RawTerm, Stop>
+fn sum(alloc: Global, mode: Mode, reader: &mut Reader) -> ReadTerm
     ensures exact { Gives result reader.new (reads (Sum (mode_view mode)) reader.old) }
     ensures less { OnOk result (length reader.new < length reader.old) }
 {
@@ -231,12 +229,7 @@ fn sum(alloc: Global, mode: Mode, reader: &mut Reader) -> Result<RawTerm, Stop>
 /// The further summands of a sum that begins with `first`.
 #[cycle(terms)]
 #[tactic(auto, using(crate::proofs::TermRepetitions::more_summands_by))]
-fn more_summands(
-    alloc: Global,
-    mode: Mode,
-    reader: &mut Reader,
-    first: RawTerm,
-) -> Result<RawTerm, Stop>
+fn more_summands(alloc: Global, mode: Mode, reader: &mut Reader, first: RawTerm) -> ReadTerm
     ensures exact { Gives result reader.new (fold_from chained first (reads (MoreSummands (mode_view mode)) reader.old)) }
     ensures less { OnOk result (length reader.new ≤ length reader.old) }
 {
@@ -249,13 +242,7 @@ fn more_summands(
 
 /// A product, which is joined to a sum by an operator.
 #[cycle(terms)]
-fn summand(
-    alloc: Global,
-    mode: Mode,
-    reader: &mut Reader,
-    operator: u32,
-    left: RawTerm,
-) -> Result<RawTerm, Stop>
+fn summand(alloc: Global, mode: Mode, reader: &mut Reader, operator: u32, left: RawTerm) -> ReadTerm
     ensures exact { Gives result reader.new (mapped (λ right. chained left (operator, right)) (reads (Product (mode_view mode)) reader.old)) }
     ensures less { OnOk result (length reader.new < length reader.old) }
 {
@@ -267,7 +254,7 @@ fn summand(
 #[cycle(terms)]
 #[tactic(auto, using(crate::proofs::TermRepetitions::product_by))]
 #[inline(always)]
-fn product(alloc: Global, mode: Mode, reader: &mut Reader) -> Result<RawTerm, Stop>
+fn product(alloc: Global, mode: Mode, reader: &mut Reader) -> ReadTerm
     ensures exact { Gives result reader.new (reads (Product (mode_view mode)) reader.old) }
     ensures less { OnOk result (length reader.new < length reader.old) }
 {
@@ -278,12 +265,7 @@ fn product(alloc: Global, mode: Mode, reader: &mut Reader) -> Result<RawTerm, St
 /// The further factors of a product that begins with `first`.
 #[cycle(terms)]
 #[tactic(auto, using(crate::proofs::TermRepetitions::more_factors_by))]
-fn more_factors(
-    alloc: Global,
-    mode: Mode,
-    reader: &mut Reader,
-    first: RawTerm,
-) -> Result<RawTerm, Stop>
+fn more_factors(alloc: Global, mode: Mode, reader: &mut Reader, first: RawTerm) -> ReadTerm
     ensures exact { Gives result reader.new (fold_from chained first (reads (MoreFactors (mode_view mode)) reader.old)) }
     ensures less { OnOk result (length reader.new ≤ length reader.old) }
 {
@@ -296,13 +278,7 @@ fn more_factors(
 
 /// An application, which is joined to a product by an operator.
 #[cycle(terms)]
-fn factor(
-    alloc: Global,
-    mode: Mode,
-    reader: &mut Reader,
-    operator: u32,
-    left: RawTerm,
-) -> Result<RawTerm, Stop>
+fn factor(alloc: Global, mode: Mode, reader: &mut Reader, operator: u32, left: RawTerm) -> ReadTerm
     ensures exact { Gives result reader.new (mapped (λ right. chained left (operator, right)) (reads (Application (mode_view mode)) reader.old)) }
     ensures less { OnOk result (length reader.new < length reader.old) }
 {
@@ -313,11 +289,11 @@ fn factor(
 /// `Suc` or a word and the atoms that it is applied to, or an atom that isn't a word.
 #[cycle(terms)]
 #[tactic(auto, using(crate::proofs::TermRules::application_is))]
-fn application(alloc: Global, mode: Mode, reader: &mut Reader) -> Result<RawTerm, Stop>
+fn application(alloc: Global, mode: Mode, reader: &mut Reader) -> ReadTerm
     ensures exact { Gives result reader.new (reads (Application (mode_view mode)) reader.old) }
     ensures less { OnOk result (length reader.new < length reader.old) }
 {
-    if reader.skips(SUC_WORD) {
+    if reader.skips(kinds::SUC_WORD) {
         return Ok(RawTerm::Op(operators::SUC, arguments(alloc, mode, reader)?));
     }
     if is_plain_atom_next(mode, reader) {
@@ -330,7 +306,7 @@ fn application(alloc: Global, mode: Mode, reader: &mut Reader) -> Result<RawTerm
 /// A word, or another atom.
 #[cycle(terms)]
 #[tactic(auto, using(crate::proofs::TermRules::atom_is))]
-pub fn atom(alloc: Global, mode: Mode, reader: &mut Reader) -> Result<RawTerm, Stop>
+pub fn atom(alloc: Global, mode: Mode, reader: &mut Reader) -> ReadTerm
     ensures exact { Gives result reader.new (reads (Atom (mode_view mode)) reader.old) }
     ensures less { OnOk result (length reader.new < length reader.old) }
 {
@@ -376,17 +352,17 @@ pub(crate) fn arguments(
 /// A number, `True`, `False`, a term in brackets, or in a certificate a numbered variable.
 #[cycle(terms)]
 #[tactic(auto, using(crate::proofs::TermRules::plain_atom_is))]
-fn plain_atom(alloc: Global, mode: Mode, reader: &mut Reader) -> Result<RawTerm, Stop>
+fn plain_atom(alloc: Global, mode: Mode, reader: &mut Reader) -> ReadTerm
     ensures exact { Gives result reader.new (reads (PlainAtom (mode_view mode)) reader.old) }
     ensures less { OnOk result (length reader.new < length reader.old) }
 {
     if let Some(number) = reader.next_number() {
         return Ok(RawTerm::Num(number));
     }
-    if reader.skips(TRUE_WORD) {
+    if reader.skips(kinds::TRUE_WORD) {
         return Ok(RawTerm::Truth(true));
     }
-    if reader.skips(FALSE_WORD) {
+    if reader.skips(kinds::FALSE_WORD) {
         return Ok(RawTerm::Truth(false));
     }
     last_atom(alloc, mode, reader)
@@ -394,14 +370,14 @@ fn plain_atom(alloc: Global, mode: Mode, reader: &mut Reader) -> Result<RawTerm,
 
 /// A term in brackets, or in a certificate `?` or `!` and a number.
 #[cycle(terms)]
-fn last_atom(alloc: Global, mode: Mode, reader: &mut Reader) -> Result<RawTerm, Stop>
+fn last_atom(alloc: Global, mode: Mode, reader: &mut Reader) -> ReadTerm
     ensures exact { Gives result reader.new (by_rule (last_atom (mode_view mode)) reader.old) }
     ensures less { OnOk result (length reader.new < length reader.old) }
 {
     match mode {
         Mode::Theory => enclosed(alloc, mode, reader),
         Mode::Certificate => {
-            if reader.is_next(&[OPEN_PAREN]) {
+            if reader.is_next(&[kinds::OPEN_PAREN]) {
                 return enclosed(alloc, mode, reader);
             }
             numbered_variable(reader)
@@ -411,12 +387,12 @@ fn last_atom(alloc: Global, mode: Mode, reader: &mut Reader) -> Result<RawTerm, 
 
 /// `(` term `)`.
 #[cycle(terms)]
-fn enclosed(alloc: Global, mode: Mode, reader: &mut Reader) -> Result<RawTerm, Stop>
+fn enclosed(alloc: Global, mode: Mode, reader: &mut Reader) -> ReadTerm
     ensures exact { Gives result reader.new (by_rule (enclosed (mode_view mode)) reader.old) }
     ensures less { OnOk result (length reader.new < length reader.old) }
 {
-    reader.take(OPEN_PAREN)?;
+    reader.take(kinds::OPEN_PAREN)?;
     let inner = term(alloc, mode, reader)?;
-    reader.take(CLOSE_PAREN)?;
+    reader.take(kinds::CLOSE_PAREN)?;
     Ok(inner)
 }
