@@ -1,14 +1,13 @@
 -- Later declarations keep typings of core terms.
-use Rattle.std.proofs.Common.{ℕ, zero, suc, ◌≡◌, Bool, true, List, [], ◌∷◌, ◌++◌, map, reverse, Option, Some, refl, sym, ◌∙◌, ap, subst}
+use Rattle.std.proofs.Common.{ℕ, zero, suc, ◌≡◌, Bool, true, List, [], ◌∷◌, ◌++◌, map, reverse, Option, refl, sym, ◌∙◌, ap, subst}
 use Rattle.std.specs.Prelude.{slice_get}
 use Rattle.std.specs.Option.{option_map_or}
 use Rattle.tg_model.specs.Tree as tree
 use Rattle.tg_model.specs.Tree.{Tree, Trees, Arms, bound, free, literal, truth, con, call, put, choice, case, bind, op}
 use Rattle.tg_model.specs.Types.{Ty}
 use Rattle.tg_model.specs.Theory.{Theory, Datatype, Constructor, instance}
-use Rattle.tg_model.specs.TermTyping.{Typing, Typings, ArmTypings, leaf, instanced, compound, branching, binding, none, more, end, arm, type_of, constructor_arguments, IsDatatype, IsTyping, AreTypings, AreArmTypings, IsTyped}
+use Rattle.tg_model.specs.TermTyping.{Typing, Typings, ArmTypings, leaf, instanced, compound, branching, binding, none, more, end, arm, constructor_arguments, IsDatatype, IsTyping, AreTypings, AreArmTypings, IsTyped}
 use Rattle.tg_model.specs.Calls.{has_call, have_call, branches_have_call}
-use Rattle.tg_model.specs.Accepted.{UsesAt}
 use Rattle.tg_model.proofs.Booleans.{or_left, or_right}
 use Rattle.tg_accept.specs.Laws.{Widens}
 use Rattle.tg_accept.proofs.Widening.{front, same_constructor, same_function, same_datatype}
@@ -18,7 +17,7 @@ module _ (th wide : Theory) (w : Widens th wide) where
   same_arguments zero us h = refl
   same_arguments (suc d) us (x, is, count) =
       let of : Option Datatype → List (List Ty) =
-        λ o. option_map_or (λ (x : Datatype). map (λ (k : Constructor). map (instance us) k.arguments) x.constructors) o [] in
+      λ o. option_map_or (λ (x : Datatype). map (λ (k : Constructor). map (instance us) k.arguments) x.constructors) o [] in
       ap of (ap (λ l. slice_get l d) w.datatypes ∙ front th.datatypes w.more_datatypes d x is ∙ sym is)
 
   module _ (vars : List Ty) where
@@ -51,7 +50,7 @@ module _ (th wide : Theory) (w : Widens th wide) where
         e,
         widened t d locs (λ x. p (or_left (has_call t) (branches_have_call arms) x)) h,
         subst (λ l. AreArmTypings wide vars locs u arms l ds) (sym (same_arguments n us is))
-        (arms_widened arms (constructor_arguments th n us) ds u locs (λ x. p (or_right (has_call t) (branches_have_call arms) x)) each),
+            (arms_widened arms (constructor_arguments th n us) ds u locs (λ x. p (or_right (has_call t) (branches_have_call arms) x)) each),
       )
       widened t d locs p h = absurd h
 

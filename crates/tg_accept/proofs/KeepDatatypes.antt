@@ -1,25 +1,15 @@
 -- A datatype without a fault keeps what is said of all that is declared.
-use Rattle.std.proofs.Common.{ℕ, zero, suc, ◌≡◌, ◌<◌, ◌≤◌, ◌+◌, ◌-◌, ◌⊎◌, Bool, true, false, not, ◌&&◌, ◌||◌, nat_eq, List, [], ◌∷◌, ◌++◌, map, length, Option, Some, None, refl, sym, ◌∙◌, ap, subst, inl, inr, arith, if◌then◌else◌, append_assoc}
-use Rattle.std.specs.Prelude.{slice_get}
+use Rattle.std.proofs.Common.{ℕ, zero, suc, ◌≡◌, ◌<◌, Bool, true, false, not, nat_eq, List, [], ◌∷◌, Some, refl, sym, ◌∙◌, ap, subst, inl, inr, arith, if◌then◌else◌}
 use Rattle.std.proofs.lemmas.Bool.Decides.{eqb_tells}
-use Rattle.std.specs.Option.{option_map_or}
 use Rattle.std.specs.List.{list_any, list_all}
-use Rattle.std.proofs.lemmas.List.{length-append, append-nil}
 use Rattle.tg_model.specs.Types as types
 use Rattle.tg_model.specs.Types.{Ty, Tys, nat, bool, parameter, meta, applied, tys}
-use Rattle.tg_model.specs.Theory.{Theory, Datatype, Constructor, Function, Program, datatype_of, first_constructor, numbered}
+use Rattle.tg_model.specs.Theory.{Theory, Constructor, datatype_of}
 use Rattle.tg_model.specs.Typing.{base_constructor}
-use Rattle.tg_model.specs.WellTyped.{IsBefore, AreBefore, IsInhabited}
-use Rattle.tg_model.specs.Accepted.{IsAmong, AreDistinct, constructor_names, parameters_from, IsArgument, AreArguments, AreConstructors}
+use Rattle.tg_model.specs.WellTyped.{IsBefore, AreBefore}
+use Rattle.tg_model.specs.Accepted.{parameters_from, IsArgument, AreArguments, AreConstructors}
 use Rattle.tg_model.proofs.Booleans.{or_left_false, or_right_false, or_cases, and_left, and_right}
-use Rattle.tg_model.proofs.Places.{get_left, get_past}
-use Rattle.tg_accept.specs.Declared.{Declared, theory, with_datatype}
-use Rattle.tg_accept.specs.Laws.{Widens}
-use Rattle.tg_accept.specs.Kept.{names_of_types, names_of_values, name_of_program, IsKept}
-use Rattle.tg_accept.specs.Faults.{Fault, name, shape, is_taken, first_taken, holds, any_holds, are_parameters, is_itself, is_argument, is_base, is_datatype_shaped, datatype_fault}
-use Rattle.tg_accept.specs.Meant.{AreMade, AreConstructorsMade, IsDatatypeMeant}
-use Rattle.tg_accept.proofs.Names.{put_one, put_all}
-use Rattle.tg_accept.proofs.KeptAlong.{IsDatatypeOf, datatype_along, function_along, program_along, specification_along}
+use Rattle.tg_accept.specs.Faults.{holds, any_holds, are_parameters, is_itself, is_argument, is_base}
 
 pub same_number : (m n : ℕ) → nat_eq m n ≡ true → m ≡ n
 same_number m n e = elim (eqb_tells m n) [ inl p ↦ p.1 | inr p ↦ absurd (let x : true ≡ false = sym e ∙ p.0 in cc x) ]
@@ -115,9 +105,9 @@ module _ (th : Theory) (n params : ℕ) where
   base_arguments [] h e b = tt
   base_arguments (t ∷ ts) h e b = (
     base_argument t h.0 (and_left (is_argument (suc n) params t) (list_all (is_argument (suc n) params) ts) e)
-      (or_left_false (nat_eq (datatype_of t) (suc n)) (list_any (λ u. nat_eq (datatype_of u) (suc n)) ts) b),
+        (or_left_false (nat_eq (datatype_of t) (suc n)) (list_any (λ u. nat_eq (datatype_of u) (suc n)) ts) b),
     base_arguments ts h.1 (and_right (is_argument (suc n) params t) (list_all (is_argument (suc n) params) ts) e)
-      (or_right_false (nat_eq (datatype_of t) (suc n)) (list_any (λ u. nat_eq (datatype_of u) (suc n)) ts) b),
+        (or_right_false (nat_eq (datatype_of t) (suc n)) (list_any (λ u. nat_eq (datatype_of u) (suc n)) ts) b),
   )
 
   -- the first constructor without an argument of the datatype itself
@@ -147,11 +137,11 @@ module _ (th : Theory) (n params : ℕ) where
             number = rest.number;
             constructor = rest.constructor;
             base = ap (λ z. if z then base_constructor (suc n) (suc k) cs else Some (k, c)) q ∙ rest.base;
-            before = rest.before
+            before = rest.before;
           }
       by false q later = record {
         number = k;
         constructor = c;
         base = ap (λ z. if z then base_constructor (suc n) (suc k) cs else Some (k, c)) q;
-        before = base_arguments c.arguments h.0 (and_left (are_arguments c) (list_all are_arguments cs) e) q
+        before = base_arguments c.arguments h.0 (and_left (are_arguments c) (list_all are_arguments cs) e) q;
       }

@@ -1,15 +1,14 @@
 -- What was declared before stays as it is said to be, when one declaration more is put behind it.
-use Rattle.std.proofs.Common.{ℕ, suc, ◌≡◌, ◌<◌, true, List, [], ◌∷◌, ◌++◌, Option, Some, None, refl, sym, ◌∙◌, ap, subst}
+use Rattle.std.proofs.Common.{ℕ, suc, ◌≡◌, Option, Some, None}
 use Rattle.std.specs.Prelude.{slice_get}
 use Rattle.std.proofs.lemmas.Option.{slice_get_within}
 use Rattle.tg_model.specs.Tree.{Tree}
 use Rattle.tg_model.specs.Types.{bool, tys}
 use Rattle.tg_model.specs.Theory.{Theory, Datatype, Function, Program}
 use Rattle.tg_model.specs.WellTyped.{IsInhabited, IsBody}
-use Rattle.tg_model.specs.Calls.{has_call}
 use Rattle.tg_model.specs.Accepted.{AreConstructors, IsFunction}
 use Rattle.tg_accept.specs.Laws.{Widens}
-use Rattle.tg_accept.specs.Kept.{IsProgram, IsSpecification, IsSpecified}
+use Rattle.tg_accept.specs.Kept.{IsProgram, IsSpecified}
 use Rattle.tg_accept.proofs.CoreWidening.{typed_widened}
 use Rattle.tg_accept.proofs.KeptTypes.{constructors_widened, inhabited_widened, body_widened, function_widened, closed_widened, all_closed_widened}
 
@@ -34,7 +33,7 @@ module _ (th wide : Theory) (w : Widens th wide) where
     inputs = all_closed_widened th wide w (tys p.inputs) h.inputs;
     answer = closed_widened th wide w p.answer h.answer;
     some_input = h.some_input;
-    few_inputs = h.few_inputs
+    few_inputs = h.few_inputs;
   }
 
   pub specification_along : (p : Option Program) (t : Tree) → wide.program ≡ th.program → IsSpecified th p t → IsSpecified wide p t

@@ -1,7 +1,6 @@
 -- Later declarations keep what is said of types and of functions.
-use Rattle.std.proofs.Common.{ℕ, zero, suc, ◌≡◌, ◌<◌, ◌≤◌, ◌+◌, ◌⊎◌, Bool, true, false, List, [], ◌∷◌, ◌++◌, map, length, Option, Some, None, refl, sym, ◌∙◌, ap, subst, inl, inr, arith}
+use Rattle.std.proofs.Common.{ℕ, zero, suc, ◌≡◌, ◌<◌, ◌≤◌, ◌+◌, Bool, true, false, List, [], ◌∷◌, ◌++◌, length, Some, refl, sym, ◌∙◌, ap, subst, inl, inr, arith}
 use Rattle.std.specs.Prelude.{slice_get}
-use Rattle.std.proofs.lemmas.Option.{slice_get_within}
 use Rattle.std.proofs.lemmas.List.{length-append}
 use Rattle.tg_model.specs.Tree.{Tree}
 use Rattle.tg_model.specs.Types as types
@@ -9,12 +8,12 @@ use Rattle.tg_model.specs.Types.{Ty, Tys, nat, bool, parameter, meta, applied, t
 use Rattle.tg_model.specs.Theory.{Theory, Datatype, Constructor, Function, Body, plain, recursive, numbered, constructors_before, first_constructor, IsClosed, AreClosed}
 use Rattle.tg_model.specs.Typing.{base_constructor}
 use Rattle.tg_model.specs.Denotation.{others}
-use Rattle.tg_model.specs.TermTyping.{IsTyped, IsDatatype, datatype_at, constructor_arguments}
-use Rattle.tg_model.specs.WellTyped.{IsBefore, AreBefore, IsInhabited, IsLower, AreCases, IsBody}
+use Rattle.tg_model.specs.TermTyping.{datatype_at, constructor_arguments}
+use Rattle.tg_model.specs.WellTyped.{IsBefore, AreBefore, IsInhabited, AreCases, IsBody}
 use Rattle.tg_model.specs.Calls.{has_call}
 use Rattle.tg_model.specs.Accepted.{IsArgument, AreArguments, AreConstructors, HaveNoCall, bodies, UseThemselves, UsesItself, IsFunction}
 use Rattle.tg_accept.specs.Laws.{Widens}
-use Rattle.tg_accept.proofs.Widening.{front, front_numbered, same_datatype}
+use Rattle.tg_accept.proofs.Widening.{front_numbered, same_datatype}
 use Rattle.tg_accept.proofs.CoreWidening.{same_arguments, term_widened, typed_widened}
 
 before_front : (d : ℕ) (xs ys : List Datatype) → d ≤ length xs → constructors_before d (xs ++ ys) ≡ constructors_before d xs
@@ -92,7 +91,7 @@ module _ (th wide : Theory) (w : Widens th wide) where
     number = h.number;
     constructor = h.constructor;
     base = ap (λ n. base_constructor (suc d) n x.constructors) (same_first d low) ∙ h.base;
-    before = all_before_widened (suc d) (suc d) x.parameters (omega arith) (tys h.constructor.arguments) h.before
+    before = all_before_widened (suc d) (suc d) x.parameters (omega arith) (tys h.constructor.arguments) h.before;
   }
 
   cases_widened : (self : ℕ) (x : Function) (place : ℕ) (ts : List Tree) (args : List (List Ty)) → HaveNoCall ts
@@ -114,7 +113,7 @@ module _ (th wide : Theory) (w : Widens th wide) where
     at,
     same_datatype th wide w d us is,
     subst (λ l. AreCases wide self x place ts l) (sym (same_arguments th wide w d us is))
-    (cases_widened self x place ts (constructor_arguments th d us) n cases),
+        (cases_widened self x place ts (constructor_arguments th d us) n cases),
   )
 
   themselves_widened : (self : ℕ) (x : Function) (place : ℕ) (ts : List Tree) (args : List (List Ty)) → HaveNoCall ts
@@ -139,7 +138,7 @@ module _ (th wide : Theory) (w : Widens th wide) where
   function_widened self x h = record {
     types = all_before_widened (suc (length th.datatypes)) (suc (length wide.datatypes)) x.parameters (omega (arith, as_many)) (tys (x.answer ∷ x.arguments)) h.types;
     no_call = h.no_call;
-    own_type = own x.body h.no_call h.own_type
+    own_type = own x.body h.no_call h.own_type;
   }
     where
       own : (b : Body) → HaveNoCall (bodies b) → UsesItself th self x b → UsesItself wide self x b
@@ -149,5 +148,5 @@ module _ (th wide : Theory) (w : Widens th wide) where
         us,
         at,
         subst (λ l. UseThemselves wide self x place ts l) (sym (datatype_of_argument x.parameters place d us x.arguments h.types.1 at))
-        (themselves_widened self x place ts (constructor_arguments th d us) n each),
+            (themselves_widened self x place ts (constructor_arguments th d us) n each),
       )

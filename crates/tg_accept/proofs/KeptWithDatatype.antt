@@ -1,18 +1,17 @@
 -- A datatype without a fault keeps what is said of all that is declared.
-use Rattle.std.proofs.Common.{ℕ, zero, suc, ◌≡◌, ◌<◌, ◌≤◌, ◌+◌, ◌-◌, ◌⊎◌, Bool, true, false, ◌&&◌, List, [], ◌∷◌, ◌++◌, map, length, Option, Some, None, refl, sym, ◌∙◌, ap, subst, inl, inr, arith, append_assoc}
+use Rattle.std.proofs.Common.{ℕ, zero, suc, ◌≡◌, ◌⊎◌, true, false, List, [], ◌∷◌, ◌++◌, map, length, Some, None, refl, sym, ◌∙◌, ap, subst, inl, inr, arith, append_assoc}
 use Rattle.std.specs.Prelude.{slice_get}
 use Rattle.std.specs.List.{list_any, list_all}
 use Rattle.std.proofs.lemmas.List.{length-append, append-nil, map-append}
 use Rattle.tg_model.specs.Types.{tys}
 use Rattle.tg_model.specs.Theory.{Theory, Datatype, Constructor, Function, first_constructor}
 use Rattle.tg_model.specs.WellTyped.{AreBefore}
-use Rattle.tg_model.specs.Accepted.{IsAmong, AreDistinct, constructor_names}
+use Rattle.tg_model.specs.Accepted.{AreDistinct, constructor_names}
 use Rattle.tg_model.proofs.Booleans.{and_left, and_right}
-use Rattle.tg_model.proofs.Places.{get_left, get_past}
 use Rattle.tg_accept.specs.Declared.{Declared, theory, with_datatype}
 use Rattle.tg_accept.specs.Laws.{Widens}
 use Rattle.tg_accept.specs.Kept.{names_of_types, names_of_values, name_of_program, IsKept}
-use Rattle.tg_accept.specs.Faults.{Fault, is_taken, first_taken, is_base, is_datatype_shaped, datatype_fault}
+use Rattle.tg_accept.specs.Faults.{is_taken, first_taken, is_base, is_datatype_shaped, datatype_fault}
 use Rattle.tg_accept.specs.Meant.{AreConstructorsMade, IsDatatypeMeant}
 use Rattle.tg_accept.proofs.Names.{put_one, put_all}
 use Rattle.tg_accept.proofs.NoFaults.{no_fault_if, no_name, no_shape}
@@ -77,12 +76,11 @@ module _ (D : Declared) (x : Datatype) (kept : IsKept D) (meant : IsDatatypeMean
   new_datatype =
       let n = length D.datatypes in
       let arguments = and_left (list_all (are_arguments (theory [] (with_datatype D x)) n x.parameters) x.constructors)
-        (list_any (λ (c : Constructor). is_base (suc n) c.arguments) x.constructors) shaped in
+      (list_any (λ (c : Constructor). is_base (suc n) c.arguments) x.constructors) shaped in
       let bases = and_right (list_all (are_arguments (theory [] (with_datatype D x)) n x.parameters) x.constructors)
-        (list_any (λ (c : Constructor). is_base (suc n) c.arguments) x.constructors) shaped in
+      (list_any (λ (c : Constructor). is_base (suc n) c.arguments) x.constructors) shaped in
       let below = made x.constructors meant in
-      let base = based (theory [] (with_datatype D x)) n x.parameters (first_constructor (D.datatypes ++ x ∷ []) (suc n)) x.constructors below arguments bases in
-      (
+      let base = based (theory [] (with_datatype D x)) n x.parameters (first_constructor (D.datatypes ++ x ∷ []) (suc n)) x.constructors below arguments bases in (
         record { number = base.number; constructor = base.constructor; base = base.base; before = base.before },
         constructors (theory [] (with_datatype D x)) n x.parameters x.constructors below arguments,
       )
@@ -100,5 +98,5 @@ module _ (D : Declared) (x : Datatype) (kept : IsKept D) (meant : IsDatatypeMean
     datatypes = each_datatype;
     functions = λ n f e. function_along (theory [] D) (theory [] (with_datatype D x)) widens n f (kept.functions n f e);
     program = λ p e. program_along (theory [] D) (theory [] (with_datatype D x)) widens p (kept.program p e);
-    specification = λ t e. specification_along (theory [] D) (theory [] (with_datatype D x)) widens D.program t refl (kept.specification t e)
+    specification = λ t e. specification_along (theory [] D) (theory [] (with_datatype D x)) widens D.program t refl (kept.specification t e);
   }

@@ -36,5 +36,5 @@ theory x D = record {
   datatypes = D.datatypes;
   functions = D.functions;
   program = unwrap_or D.program no_program;
-  specification = unwrap_or D.specification (truth true)
+  specification = unwrap_or D.specification (truth true);
 }

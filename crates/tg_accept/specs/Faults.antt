@@ -1,6 +1,6 @@
 -- What is wrong with a declaration that is put behind others: the first fault, a name before a shape and a shape before what is
 -- said of the program. Its types and terms are right already.
-use Rattle.std.specs.Prelude.{ℕ, zero, suc, Bool, true, false, not, ◌&&◌, ◌||◌, ◌+◌, ◌-◌, nat_eq, List, [], ◌∷◌, map, length, Option, Some, None, is_some, slice_get, unwrap_or, if◌then◌else◌}
+use Rattle.std.specs.Prelude.{ℕ, zero, suc, Bool, true, false, not, ◌&&◌, ◌||◌, ◌-◌, nat_eq, List, [], ◌∷◌, map, length, Option, Some, None, is_some, slice_get, unwrap_or, if◌then◌else◌}
 use Rattle.std.specs.Option.{option_map_or}
 use Rattle.std.specs.List.{list_any, list_all}
 use Rattle.std.specs.Str.{bytes_eq}

@@ -1,5 +1,5 @@
 -- What is found by a number is what the model numbers so.
-use Rattle.std.proofs.Common.{ℕ, zero, suc, ◌≡◌, ◌+◌, List, [], ◌∷◌, ◌++◌, map, length, Option, Some, None, refl, sym, ◌∙◌, ap, subst, arith}
+use Rattle.std.proofs.Common.{ℕ, zero, suc, ◌≡◌, ◌+◌, List, [], ◌∷◌, ◌++◌, map, length, Option, Some, None, refl, sym, ◌∙◌, ap, arith}
 use Rattle.std.specs.Prelude.{slice_get, option_map}
 use Rattle.std.specs.Option.{option_map_or}
 use Rattle.std.proofs.lemmas.Option.{slice_get-map}
@@ -13,7 +13,7 @@ use Rattle.tg_declarations.specs.declared.declarations.Datatype.{Datatype}
 use Rattle.tg_declarations.specs.Owners.{owners_from, all_numbers_from, places_from, numbers_from, at_owner}
 use Rattle.tg_declarations.specs.View.{datatype, constructor, owned, constructor_numbers}
 use Rattle.tg_declarations.specs.Inside.{datatypes}
-use Rattle.tg_declarations.proofs.OwnerLaws.{Leads, BothLead, both_lead, owners_more, numbers_more, numbers_at}
+use Rattle.tg_declarations.proofs.OwnerLaws.{BothLead, both_lead, owners_more, numbers_more, numbers_at}
 
 -- ---- constructors
 
@@ -44,13 +44,13 @@ both xs None (Some w) h = absurd h
 both xs (Some o) None h = absurd h
 both xs (Some o) (Some w) h =
     let inside : model.Datatype → Option Owned =
-      λ x. option_map (λ (c : Constructor). let v : Owned = record { datatype = o.datatype; constructor = c } in v) (slice_get x.constructors o.place) in
+    λ x. option_map (λ (c : Constructor). let v : Owned = record { datatype = o.datatype; constructor = c } in v) (slice_get x.constructors o.place) in
     let at : numbered xs o.datatype ≡ Some h.datatype = ap (numbered xs) (h.number ∙ (let e : 1 + h.place ≡ suc h.place = omega arith in e)) ∙ h.is in
     let same : w ≡ record { datatype = o.datatype; constructor = w.constructor } = λ i. record { datatype = h.same i; constructor = w.constructor } in
     sym (
-      ap (λ q. option_map_or inside q None) at
-      ∙ ap (option_map (λ (c : Constructor). let v : Owned = record { datatype = o.datatype; constructor = c } in v)) h.constructor
-      ∙ ap Some (sym same)
+    ap (λ q. option_map_or inside q None) at
+    ∙ ap (option_map (λ (c : Constructor). let v : Owned = record { datatype = o.datatype; constructor = c } in v)) h.constructor
+    ∙ ap Some (sym same)
     )
 
 pub constructor_found : (xs : List model.Datatype) (os : List Owner) (c : ℕ) → os ≡ owners_from 1 xs

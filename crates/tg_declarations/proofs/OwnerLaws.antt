@@ -1,11 +1,11 @@
 -- Where a constructor's number leads: to the constructor that the model gives this number.
 use Rattle.std.proofs.Common.{ℕ, zero, suc, ◌≡◌, ◌<◌, ◌≤◌, ◌+◌, ◌-◌, ◌⊎◌, List, [], ◌∷◌, ◌++◌, map, length, Option, Some, None, refl, sym, ◌∙◌, ap, subst, append_assoc, take, inl, inr, arith}
 use Rattle.std.specs.Prelude.{slice_get, option_map}
-use Rattle.std.proofs.lemmas.Option.{slice_get-map, slice_get_within, slice_get_past}
+use Rattle.std.proofs.lemmas.Option.{slice_get-map}
 use Rattle.std.proofs.Math.Seq.{take-append_seam}
 use Rattle.std.proofs.lemmas.List.{length-map, length-append, append-nil}
 use Rattle.tg_model.specs.Theory.{Datatype, Constructor, Owned, constructors_from, constructors_before}
-use Rattle.tg_model.proofs.Places.{get_left, get_past, get_within, none_past}
+use Rattle.tg_model.proofs.Places.{get_left, get_past, get_within}
 use Rattle.tg_declarations.specs.declared.owners.Owner.{Owner}
 use Rattle.tg_declarations.specs.Owners.{places_from, owners_from, numbers_from, all_numbers_from}
 
@@ -111,7 +111,7 @@ numbers_more n d (y ∷ xs) x =
     let count = length-append (places_from d 0 (length y.constructors)) (owners_from (suc d) xs) in
     let many = length_places d 0 (length y.constructors) in
     let e : length (owners_from (suc d) xs) + (n + length y.constructors) ≡ length (places_from d 0 (length y.constructors) ++ owners_from (suc d) xs) + n =
-      omega (arith, count, many) in
+    omega (arith, count, many) in
     ap (λ l. numbers_from n (length y.constructors) ∷ l) (numbers_more (n + length y.constructors) (suc d) xs x)
     ∙ ap (λ m. numbers_from n (length y.constructors) ∷ (all_numbers_from (n + length y.constructors) xs ++ numbers_from m (length x.constructors) ∷ [])) e
 

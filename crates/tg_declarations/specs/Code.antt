@@ -24,8 +24,8 @@ coded_constructor = code_by (List ℕ × List Ty) (coded× coded_name coded_type
 abbrev pub coded_datatype : Coded Datatype
 coded_datatype =
     code_by (List ℕ × (ℕ × List Constructor)) (coded× coded_name (coded× coded_ℕ (coded_list coded_constructor)))
-      (λ d. (d.name, (d.parameters, d.constructors)))
-      (λ p. record { name = p.0; parameters = p.1.0; constructors = p.1.1 }) (λ _. refl)
+    (λ d. (d.name, (d.parameters, d.constructors)))
+    (λ p. record { name = p.0; parameters = p.1.0; constructors = p.1.1 }) (λ _. refl)
 
 abbrev body_parts : Body → Tree ⊎ (ℕ × List Tree)
 body_parts (plain t) = inl t
@@ -45,17 +45,17 @@ coded_body = code_by (Tree ⊎ (ℕ × List Tree)) (coded⊎ coded_tree (coded×
 abbrev pub coded_function : Coded Function
 coded_function =
     code_by (List ℕ × (ℕ × (List Ty × (Ty × Body)))) (coded× coded_name (coded× coded_ℕ (coded× coded_types (coded× coded_type coded_body))))
-      (λ f. (f.name, (f.parameters, (f.arguments, (f.answer, f.body)))))
-      (λ p. record { name = p.0; parameters = p.1.0; arguments = p.1.1.0; answer = p.1.1.1.0; body = p.1.1.1.1 }) (λ _. refl)
+    (λ f. (f.name, (f.parameters, (f.arguments, (f.answer, f.body)))))
+    (λ p. record { name = p.0; parameters = p.1.0; arguments = p.1.1.0; answer = p.1.1.1.0; body = p.1.1.1.1 }) (λ _. refl)
 
 abbrev pub coded_program : Coded Program
 coded_program =
     code_by (List ℕ × (List Ty × Ty)) (coded× coded_name (coded× coded_types coded_type)) (λ g. (g.name, (g.inputs, g.answer)))
-      (λ p. record { name = p.0; inputs = p.1.0; answer = p.1.1 }) (λ _. refl)
+    (λ p. record { name = p.0; inputs = p.1.0; answer = p.1.1 }) (λ _. refl)
 
 abbrev pub coded_declared : Coded Declared
 coded_declared =
     code_by (List Datatype × (List Function × (Option Program × Option Tree)))
-      (coded× (coded_list coded_datatype) (coded× (coded_list coded_function) (coded× (coded_option coded_program) (coded_option coded_tree))))
-      (λ D. (D.datatypes, (D.functions, (D.program, D.specification))))
-      (λ p. record { datatypes = p.0; functions = p.1.0; program = p.1.1.0; specification = p.1.1.1 }) (λ _. refl)
+    (coded× (coded_list coded_datatype) (coded× (coded_list coded_function) (coded× (coded_option coded_program) (coded_option coded_tree))))
+    (λ D. (D.datatypes, (D.functions, (D.program, D.specification))))
+    (λ p. record { datatypes = p.0; functions = p.1.0; program = p.1.1.0; specification = p.1.1.1 }) (λ _. refl)

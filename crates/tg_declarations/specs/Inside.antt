@@ -1,5 +1,5 @@
 -- What declarations mean, and what is kept to find a constructor by its number.
-use Rattle.std.specs.Prelude.{◌≡◌, ℕ, List, map, option_map}
+use Rattle.std.specs.Prelude.{◌≡◌, List, map, option_map}
 use Rattle.tg_model.specs.Theory as model
 use Rattle.tg_accept.specs.Declared.{Declared}
 use Rattle.tg_declarations.specs.declared.declarations.Datatype.{Datatype}
@@ -15,7 +15,7 @@ declared s = record {
   datatypes = datatypes s.datatypes.items;
   functions = map function s.functions.items;
   program = option_map program s.program;
-  specification = s.specification
+  specification = s.specification;
 }
 
 pub record AreNumbered (s : Inside) : Type 0 where

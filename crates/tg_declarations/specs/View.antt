@@ -1,5 +1,5 @@
 -- Declarations of the program as those of the model.
-use Rattle.std.specs.Prelude.{ℕ, zero, suc, List, [], length, map}
+use Rattle.std.specs.Prelude.{ℕ, List, [], length, map}
 use Rattle.std.specs.Option.{option_map_or}
 use Rattle.tg_model.specs.Theory as model
 use Rattle.tg_model.specs.Theory.{Constructor, Datatype, Function, Program, Owned, numbered, first_constructor}

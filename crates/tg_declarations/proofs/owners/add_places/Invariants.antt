@@ -1,4 +1,4 @@
-use Rattle.std.proofs.Common.{◌≡◌, ◌++◌, length}
+use Rattle.std.proofs.Common.{◌≡◌, ◌++◌}
 use Rattle.tg_declarations.specs.Owners.{places_from}
 use Rattle.tg_declarations.proofs.owners.add_places.Given as goal
 
