@@ -25,7 +25,7 @@ names_appended (y ∷ xs) x =
     ap (λ l. own ++ l) (names_appended xs x) ∙ sym (append_assoc own (constructor_names xs) (map (λ (c : Constructor). c.name) x.constructors))
 
 -- the item put behind a list, and those of the list
-cases_last : {A : Type 0} (xs : List A) (x y : A) (k : ℕ) → slice_get (xs ++ x ∷ []) k ≡ Some y → (slice_get xs k ≡ Some y) ⊎ ((k ≡ length xs) × (x ≡ y))
+pub cases_last : {A : Type 0} (xs : List A) (x y : A) (k : ℕ) → slice_get (xs ++ x ∷ []) k ≡ Some y → (slice_get xs k ≡ Some y) ⊎ ((k ≡ length xs) × (x ≡ y))
 cases_last [] x y zero e = inr (refl, (let q : x ≡ y = cc e in q))
 cases_last [] x y (suc k) e = cc e
 cases_last (z ∷ xs) x y zero e = inl e

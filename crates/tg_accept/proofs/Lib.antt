@@ -10,3 +10,8 @@ pub mod KeptAlong
 pub mod KeepDatatypes
 pub mod NoFaults
 pub mod KeptWithDatatype
+pub mod KeepFunctions
+pub mod KeptWithFunction
+pub mod KeptWithProgram
+pub mod KeptTheories
+pub mod KnownFaults

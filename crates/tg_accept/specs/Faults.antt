@@ -1,6 +1,6 @@
 -- What is wrong with a declaration that is put behind others: the first fault, a name before a shape and a shape before what is
 -- said of the program. Its types and terms are right already.
-use Rattle.std.specs.Prelude.{ℕ, zero, suc, Bool, true, false, not, ◌&&◌, ◌||◌, ◌-◌, nat_eq, List, [], ◌∷◌, map, length, Option, Some, None, is_some, slice_get, unwrap_or, if◌then◌else◌}
+use Rattle.std.specs.Prelude.{ℕ, zero, suc, Bool, true, false, not, ◌&&◌, ◌||◌, nat_eq, nat_lt, List, [], ◌∷◌, map, length, Option, Some, None, is_some, slice_get, unwrap_or, if◌then◌else◌}
 use Rattle.std.specs.Option.{option_map_or}
 use Rattle.std.specs.List.{list_any, list_all}
 use Rattle.std.specs.Str.{bytes_eq}
@@ -159,11 +159,7 @@ abbrev mutual
   any_has_parameter (types.more t ts) = has_parameter t || any_has_parameter ts
 
 abbrev pub from_one_to_eight : ℕ → Bool
-from_one_to_eight zero = false
-from_one_to_eight (suc n) = is_below_eight n
-  where
-    is_below_eight : ℕ → Bool
-    is_below_eight n = nat_eq (n - 7) 0
+from_one_to_eight n = nat_lt 0 n && nat_lt n 9
 
 abbrev pub program_fault : Declared → Program → Option Fault
 program_fault D p =

@@ -6,3 +6,4 @@ pub mod Declared
 pub mod Kept
 pub mod Faults
 pub mod Meant
+pub mod KeptLaws
