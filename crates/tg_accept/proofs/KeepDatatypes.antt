@@ -1,9 +1,9 @@
 -- A datatype without a fault keeps what is said of all that is declared.
-use Rattle.std.proofs.Common.{ℕ, zero, suc, ◌≡◌, ◌<◌, Bool, true, false, not, nat_eq, List, [], ◌∷◌, Some, refl, sym, ◌∙◌, ap, subst, inl, inr, arith, if◌then◌else◌}
+use Rattle.std.proofs.Common.{ℕ, zero, suc, ◌≡◌, ◌<◌, Bool, true, false, not, nat_eq, List, [], ◌∷◌, Some, refl, sym, ◌∙◌, ap, subst, inl, inr, arith, if◌then◌else◌, length, ◌+◌, ◌&&◌}
 use Rattle.std.proofs.lemmas.Bool.Decides.{eqb_tells}
 use Rattle.std.specs.List.{list_any, list_all}
 use Rattle.tg_model.specs.Types as types
-use Rattle.tg_model.specs.Types.{Ty, Tys, nat, bool, parameter, meta, applied, tys}
+use Rattle.tg_model.specs.Types.{Ty, Tys, nat, bool, parameter, meta, applied, tys, elements}
 use Rattle.tg_model.specs.Theory.{Theory, Constructor, datatype_of}
 use Rattle.tg_model.specs.Typing.{base_constructor}
 use Rattle.tg_model.specs.WellTyped.{IsBefore, AreBefore}
@@ -44,18 +44,17 @@ module _ (th : Theory) (n params : ℕ) where
     all_lower (types.more t ts) h e =
         (lower t h.0 (or_left_false (holds (suc n) t) (any_holds (suc n) ts) e), all_lower ts h.1 (or_right_false (holds (suc n) t) (any_holds (suc n) ts) e))
 
-  parameters : (m count : ℕ) (ts : Tys) → are_parameters m count ts ≡ true → ts ≡ tys (parameters_from m count)
-  parameters m zero types.none e = refl
-  parameters m zero (types.more t ts) e = cc e
-  parameters m (suc count) types.none e = cc e
-  parameters m (suc count) (types.more (parameter k) ts) e =
-      let q = same_number k m (and_left (nat_eq k m) (are_parameters (suc m) count ts) e) in
-      let rest = parameters (suc m) count ts (and_right (nat_eq k m) (are_parameters (suc m) count ts) e) in
-      λ i. types.more (parameter (q i)) (rest i)
-  parameters m (suc count) (types.more nat ts) e = cc e
-  parameters m (suc count) (types.more bool ts) e = cc e
-  parameters m (suc count) (types.more (meta k) ts) e = cc e
-  parameters m (suc count) (types.more (applied k us) ts) e = cc e
+  parameters : (m : ℕ) (ts : Tys) → are_parameters m ts ≡ true → ts ≡ tys (parameters_from m (length (elements ts)))
+  parameters m types.none e = refl
+  parameters m (types.more (parameter k) ts) e =
+      let q = same_number k m (and_left (nat_eq k m) (are_parameters (m + 1) ts) e) in
+      let rest = parameters (m + 1) ts (and_right (nat_eq k m) (are_parameters (m + 1) ts) e) in
+      let next : m + 1 ≡ suc m = omega arith in
+      (λ i. types.more (parameter (q i)) (rest i)) ∙ ap (λ n. types.more (parameter m) (tys (parameters_from n (length (elements ts))))) next
+  parameters m (types.more nat ts) e = cc e
+  parameters m (types.more bool ts) e = cc e
+  parameters m (types.more (meta k) ts) e = cc e
+  parameters m (types.more (applied k us) ts) e = cc e
 
   itself : (t : Ty) → is_itself (suc n) params t ≡ true → t ≡ applied (suc n) (tys (parameters_from 1 params))
   itself nat e = cc e
@@ -63,9 +62,11 @@ module _ (th : Theory) (n params : ℕ) where
   itself (parameter k) e = cc e
   itself (meta k) e = cc e
   itself (applied d ts) e =
-      let q = same_number d (suc n) (and_left (nat_eq d (suc n)) (are_parameters 1 params ts) e) in
-      let p = parameters 1 params ts (and_right (nat_eq d (suc n)) (are_parameters 1 params ts) e) in
-      λ i. applied (q i) (p i)
+      let q = same_number d (suc n) (and_left (nat_eq d (suc n)) (nat_eq (length (elements ts)) params && are_parameters 1 ts) e) in
+      let right = and_right (nat_eq d (suc n)) (nat_eq (length (elements ts)) params && are_parameters 1 ts) e in
+      let many = same_number (length (elements ts)) params (and_left (nat_eq (length (elements ts)) params) (are_parameters 1 ts) right) in
+      let p = parameters 1 ts (and_right (nat_eq (length (elements ts)) params) (are_parameters 1 ts) right) in
+      (λ i. applied (q i) (p i)) ∙ ap (λ m. applied (suc n) (tys (parameters_from 1 m))) many
 
   argument : (t : Ty) → IsBefore th (suc (suc n)) params t → is_argument (suc n) params t ≡ true → IsArgument th (suc n) params t
   argument t h e = elim (or_cases (not (holds (suc n) t)) (is_itself (suc n) params t) e) [

@@ -1,6 +1,8 @@
 -- What a function without a fault is: its calls are lower.
-use Rattle.std.proofs.Common.{ℕ, zero, suc, ◌≡◌, ◌<◌, ◌≤◌, ◌+◌, Bool, true, false, not, nat_eq, List, [], ◌∷◌, ◌++◌, reverse, length, Option, Some, None, refl, sym, ◌∙◌, ap, subst, inl, inr, arith}
+use Rattle.std.proofs.Common.{ℕ, zero, suc, ◌≡◌, ◌<◌, ◌≤◌, ◌+◌, Bool, true, false, not, nat_eq, List, [], ◌∷◌, ◌++◌, reverse, length, Option, Some, None, refl, sym, ◌∙◌, ap, subst, inl, inr, arith, ◌-◌}
 use Rattle.std.specs.Prelude.{slice_get, unwrap_or}
+use Rattle.std.specs.Prelude.{nat_lt}
+use Rattle.std.proofs.lemmas.Bool.{ltb-true}
 use Rattle.std.specs.Option.{option_map_or}
 use Rattle.std.specs.List.{list_any}
 use Rattle.std.proofs.lemmas.Option.{slice_get_within}
@@ -113,19 +115,17 @@ module _ (test : ℕ → Trees → Bool) (P : ℕ → Trees → Type 0) where
 -- a variable that stands for a recursive argument is one of the constructor's
 smaller : (start : ℕ) (flags : List Bool) (t : Tree) → is_smaller start flags t ≡ true
     → (i : ℕ) × (i < length flags) × (t ≡ free (suc (start + i)))
-smaller zero flags (free (suc n)) e = by (slice_get flags n) refl
+smaller start flags (free n) e = by (slice_get flags (n - (start + 1))) refl
   where
-    by : (o : Option Bool) → slice_get flags n ≡ o → (i : ℕ) × (i < length flags) × (free (suc n) ≡ free (suc (0 + i)))
-    by None q = let x : false ≡ true = sym (ap (λ o. unwrap_or o false) q) ∙ e in cc x
-    by (Some b) q = (n, slice_get_within flags n b q, ap (λ m. free (suc m)) (let z : n ≡ 0 + n = omega arith in z))
-smaller (suc start) flags (free (suc (suc n))) e =
-    let p = smaller start flags (free (suc n)) e in
-    let same : suc n ≡ suc (start + p.0) = ap number p.2 in
-    (p.0, p.1, ap (λ m. free (suc m)) (let z : suc n ≡ suc start + p.0 = omega (arith, same) in z))
-  where
-    number : Tree → ℕ
-    number (free n) = n
-    number t = 0
+    after : start < n
+    after = ltb-true start n (and_left (nat_lt start n) (unwrap_or (slice_get flags (n - (start + 1))) false) e)
+
+    by : (o : Option Bool) → slice_get flags (n - (start + 1)) ≡ o → (i : ℕ) × (i < length flags) × (free n ≡ free (suc (start + i)))
+    by None q =
+        let x : false ≡ true = sym (ap (λ o. unwrap_or o false) q) ∙ and_right (nat_lt start n) (unwrap_or (slice_get flags (n - (start + 1))) false) e in cc x
+    by (Some b) q =
+        let low = after in
+        (n - (start + 1), slice_get_within flags (n - (start + 1)) b q, ap free (let z : n ≡ suc (start + (n - (start + 1))) = omega (arith, low) in z))
 smaller start flags t e = cc e
 
 lower_here : (place start : ℕ) (flags : List Bool) (o : Option Tree) → option_map_or (is_smaller start flags) o false ≡ true

@@ -1,12 +1,12 @@
 -- A program and a specification without a fault keep what is said of all that is declared; and with both the theory is accepted.
-use Rattle.std.proofs.Common.{ℕ, zero, suc, ◌≡◌, ◌<◌, ◌≤◌, true, false, not, ◌||◌, nat_eq, List, [], ◌∷◌, ◌++◌, map, length, Option, Some, None, is_some, refl, sym, ◌∙◌, ap, subst, arith, append_assoc, if◌then◌else◌}
+use Rattle.std.proofs.Common.{ℕ, zero, suc, ◌≡◌, ◌<◌, ◌≤◌, true, false, not, ◌||◌, nat_eq, List, [], ◌∷◌, ◌++◌, map, length, Option, Some, None, is_some, refl, sym, ◌∙◌, ap, subst, arith, append_assoc, if◌then◌else◌, ◌+◌, ◌&&◌}
 use Rattle.std.specs.Option.{option_map_or}
 use Rattle.std.specs.List.{list_any}
 use Rattle.std.specs.Prelude.{slice_get, unwrap_or, nat_lt}
 use Rattle.std.proofs.lemmas.Bool.{ltb-true}
 use Rattle.std.proofs.lemmas.List.{append-nil}
 use Rattle.tg_model.specs.Tree as tree
-use Rattle.tg_model.specs.Tree.{Tree, Trees, Arms, bound, free, literal, truth, con, call, put, choice, case, bind, op, trees}
+use Rattle.tg_model.specs.Tree.{Tree, Trees, Arms, bound, free, literal, truth, con, call, put, choice, case, bind, op, trees, elements}
 use Rattle.tg_model.specs.Types as types
 use Rattle.tg_model.specs.Types.{Ty, Tys, nat, bool, parameter, meta, applied, tys}
 use Rattle.tg_model.specs.Theory.{Theory, Datatype, Function, Program, numbered, IsClosed, AreClosed}
@@ -19,7 +19,7 @@ use Rattle.tg_accept.specs.Declared.{Declared, theory, no_program, with_program,
 use Rattle.tg_accept.specs.Laws.{Widens}
 use Rattle.tg_accept.specs.Kept.{names_of_values, name_of_program, IsProgram, IsSpecified, IsKept}
 use Rattle.tg_accept.specs.Faults as faults
-use Rattle.tg_accept.specs.Faults.{Fault, is_taken, has_parameter, any_has_parameter, from_one_to_eight, program_fault, are_variables, each_put, each_puts, each_put_of, specification_fault}
+use Rattle.tg_accept.specs.Faults.{Fault, is_taken, has_parameter, any_has_parameter, from_one_to_eight, program_fault, are_variables, are_inputs, each_put, each_puts, each_put_of, specification_fault}
 use Rattle.tg_accept.specs.Meant.{IsProgramMeant, IsSpecificationMeant}
 use Rattle.tg_accept.proofs.Names.{put_one}
 use Rattle.tg_accept.proofs.NoFaults.{no_fault_if, not_false}
@@ -116,15 +116,19 @@ module _ (D : Declared) (p : Program) (kept : IsKept D) (meant : IsProgramMeant 
 
 -- ---- the specification
 
-variables : (n count : ℕ) (ts : Trees) → are_variables n count ts ≡ true → ts ≡ trees (variables_from n count)
-variables n zero tree.none e = refl
-variables n zero (tree.more t ts) e = cc e
-variables n (suc count) tree.none e = cc e
-variables n (suc count) (tree.more (free m) ts) e =
-    let q = same_number m n (and_left (nat_eq m n) (are_variables (suc n) count ts) e) in
-    let rest = variables (suc n) count ts (and_right (nat_eq m n) (are_variables (suc n) count ts) e) in
-    λ i. tree.more (free (q i)) (rest i)
-variables n (suc count) (tree.more t ts) e = cc e
+variables : (n : ℕ) (ts : Trees) → are_variables n ts ≡ true → ts ≡ trees (variables_from n (length (elements ts)))
+variables n tree.none e = refl
+variables n (tree.more (free m) ts) e =
+    let q = same_number m n (and_left (nat_eq m n) (are_variables (n + 1) ts) e) in
+    let rest = variables (n + 1) ts (and_right (nat_eq m n) (are_variables (n + 1) ts) e) in
+    let next : n + 1 ≡ suc n = omega arith in
+    (λ i. tree.more (free (q i)) (rest i)) ∙ ap (λ k. tree.more (free n) (trees (variables_from k (length (elements ts))))) next
+variables n (tree.more t ts) e = cc e
+
+inputs_alone : (count : ℕ) (ts : Trees) → are_inputs count ts ≡ true → ts ≡ trees (variables_from 1 count)
+inputs_alone count ts e =
+    variables 1 ts (and_right (nat_eq (length (elements ts)) count) (are_variables 1 ts) e)
+    ∙ ap (λ n. trees (variables_from 1 n)) (same_number (length (elements ts)) count (and_left (nat_eq (length (elements ts)) count) (are_variables 1 ts) e))
 
 no_puts : (P : Trees → Type 0) (n count : ℕ) → EachPuts P (trees (variables_from n count))
 no_puts P n zero = tt
@@ -143,7 +147,7 @@ module _ (count : ℕ) where
     puts (con c ts) e = all_put ts e
     puts (call f ts) e = all_put ts e
     puts (put ts) e =
-        let q = variables 1 count ts e in (q, subst (λ l. EachPuts Inputs l) (sym q) (no_puts Inputs 1 count))
+        let q = inputs_alone count ts e in (q, subst (λ l. EachPuts Inputs l) (sym q) (no_puts Inputs 1 count))
     puts (choice ts) e = all_put ts e
     puts (op o ts) e = all_put ts e
     puts (bind t body) e = (puts t (and_left (each_put count t) (each_put count body) e), puts body (and_right (each_put count t) (each_put count body) e))

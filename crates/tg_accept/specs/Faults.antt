@@ -1,6 +1,6 @@
 -- What is wrong with a declaration that is put behind others: the first fault, a name before a shape and a shape before what is
 -- said of the program. Its types and terms are right already.
-use Rattle.std.specs.Prelude.{ℕ, zero, suc, Bool, true, false, not, ◌&&◌, ◌||◌, nat_eq, nat_lt, List, [], ◌∷◌, map, length, Option, Some, None, is_some, slice_get, unwrap_or, if◌then◌else◌}
+use Rattle.std.specs.Prelude.{ℕ, zero, suc, Bool, true, false, not, ◌&&◌, ◌||◌, nat_eq, nat_lt, List, [], ◌∷◌, map, length, Option, Some, None, is_some, slice_get, unwrap_or, if◌then◌else◌, ◌+◌, ◌-◌}
 use Rattle.std.specs.Option.{option_map_or}
 use Rattle.std.specs.List.{list_any, list_all}
 use Rattle.std.specs.Str.{bytes_eq}
@@ -46,15 +46,18 @@ abbrev mutual
   any_holds d types.none = false
   any_holds d (types.more t ts) = holds d t || any_holds d ts
 
--- these are the parameters from `n` on, in order, `count` of them
-abbrev pub are_parameters : ℕ → ℕ → Tys → Bool
-are_parameters n zero types.none = true
-are_parameters n (suc count) (types.more (parameter m) ts) = nat_eq m n && are_parameters (suc n) count ts
-are_parameters n count ts = false
+abbrev pub is_parameter : ℕ → Ty → Bool
+is_parameter n (parameter m) = nat_eq m n
+is_parameter n t = false
+
+-- these are the parameters from `n` on, in order
+abbrev pub are_parameters : ℕ → Tys → Bool
+are_parameters n types.none = true
+are_parameters n (types.more t ts) = is_parameter n t && are_parameters (n + 1) ts
 
 -- the datatype itself, at its own parameters in order
 abbrev pub is_itself : ℕ → ℕ → Ty → Bool
-is_itself d params (applied e ts) = nat_eq e d && are_parameters 1 params ts
+is_itself d params (applied e ts) = nat_eq e d && (nat_eq (length (types.elements ts)) params && are_parameters 1 ts)
 is_itself d params t = false
 
 abbrev pub is_argument : ℕ → ℕ → Ty → Bool
@@ -114,8 +117,7 @@ recursive_arguments ds t = None
 
 -- a variable that stands for a recursive argument, where the constructor's arguments follow `start` other variables
 abbrev pub is_smaller : ℕ → List Bool → Tree → Bool
-is_smaller zero are_recursive (free (suc n)) = unwrap_or (slice_get are_recursive n) false
-is_smaller (suc start) are_recursive (free (suc (suc n))) = is_smaller start are_recursive (free (suc n))
+is_smaller start are_recursive (free n) = nat_lt start n && unwrap_or (slice_get are_recursive (n - (start + 1))) false
 is_smaller start are_recursive t = false
 
 -- where function `self` is called, the argument at `place` is smaller
@@ -167,11 +169,18 @@ program_fault D p =
     else if is_some D.program || not (from_one_to_eight (length p.inputs)) || list_any has_parameter (p.answer ∷ p.inputs) then Some program
     else None
 
--- these are the free variables from `n` on, in order, `count` of them
-abbrev pub are_variables : ℕ → ℕ → Trees → Bool
-are_variables n zero tree.none = true
-are_variables n (suc count) (tree.more (free m) ts) = nat_eq m n && are_variables (suc n) count ts
-are_variables n count ts = false
+abbrev pub is_variable : ℕ → Tree → Bool
+is_variable n (free m) = nat_eq m n
+is_variable n t = false
+
+-- these are the free variables from `n` on, in order
+abbrev pub are_variables : ℕ → Trees → Bool
+are_variables n tree.none = true
+are_variables n (tree.more t ts) = is_variable n t && are_variables (n + 1) ts
+
+-- just the `count` inputs, in their order
+abbrev pub are_inputs : ℕ → Trees → Bool
+are_inputs count ts = nat_eq (length (elements ts)) count && are_variables 1 ts
 
 -- each program call in the term has just the `count` inputs as its arguments, in their order
 module _ (count : ℕ) where
@@ -183,7 +192,7 @@ module _ (count : ℕ) where
     each_put (truth b) = true
     each_put (con c ts) = each_puts ts
     each_put (call f ts) = each_puts ts
-    each_put (put ts) = are_variables 1 count ts
+    each_put (put ts) = are_inputs count ts
     each_put (choice ts) = each_puts ts
     each_put (case n t arms) = each_put t && each_put_of arms
     each_put (bind t body) = each_put t && each_put body

@@ -1,0 +1,4 @@
+//! Theories that are accepted by construction.
+#![tactic(auto)]
+
+mod calls;
