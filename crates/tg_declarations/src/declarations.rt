@@ -81,6 +81,13 @@ impl Declarations {
         Ok(number)
     }
 
+    /// The number that the next function would have, below 2^32; else want of memory.
+    pub fn next_function(&self) -> Result<FunId, AllocError>
+        ensures { IfOk result (λ number. number ≡ length self.now.functions + 1) }
+    {
+        number_after(self.functions.len())
+    }
+
     /// Adds a function, and answers its number. Where memory is wanting, and where the number would be above
     /// 2^32 - 1, nothing is added.
     pub fn add_function(&mut self, def: FunDef) -> Result<FunId, AllocError>
