@@ -3,6 +3,7 @@
 //! and their contracts are the laws.
 #![tactic(auto)]
 
+ghost use Rattle.tg_accept.specs.KeptLaws.{NothingIsKept, KeptWithDatatype, KeptWithFunction, KeptWithProgram, KeptWithSpecification, WholeIsAccepted};
 ghost use Rattle.tg_accept.specs.Laws.{CoreIsTyped, ResolvedAgain, TypedAgain, TypingsWiden};
 
 /// The core term of a resolved term has its type, in the theory that has the declared function too.
@@ -19,4 +20,15 @@ pub fn core_terms_as_resolved()
 /// Later declarations keep typings.
 pub fn later_declarations()
     ensures { TypingsWiden }
+{}
+
+/// A declaration without a fault keeps what holds of all that is declared before it, and when nothing is
+/// missing the theory is accepted.
+pub fn growing_theories()
+    ensures nothing { NothingIsKept }
+    ensures datatypes { KeptWithDatatype }
+    ensures functions { KeptWithFunction }
+    ensures programs { KeptWithProgram }
+    ensures specifications { KeptWithSpecification }
+    ensures whole { WholeIsAccepted }
 {}
