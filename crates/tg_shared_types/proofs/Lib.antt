@@ -1,9 +1,9 @@
-mod NodeLaws
+pub mod NodeLaws
 mod JoinLaws
 mod UniteLaws
-mod PartLaws
+pub mod PartLaws
 mod Sizes
 mod MarkLaws
-mod GrowthLaws
+pub mod GrowthLaws
 mod VisitLaws
 mod KnownTables
