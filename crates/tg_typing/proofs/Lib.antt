@@ -1,2 +1,7 @@
 pub mod Turns
 pub mod Opened
+pub mod Scoped
+pub mod Leaves
+pub mod UseArms
+pub mod Frames
+pub mod LetArm

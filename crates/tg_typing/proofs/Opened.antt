@@ -126,5 +126,5 @@ opened_next old mid ks n table o =
     makes = record {
       there = λ ρ t f p q. length_end (map ρ ks) t ∙ ap suc p;
       back = λ ρ ts f w. let x = split n ts w in (x.0, x.2, λ φ g e r. (x.1, tt, x.3));
-      apart = λ ρ φ t u e p p' q q' r. ends (map ρ ks) (map φ ks) t u r (p ∙ sym p');
+      apart = λ ρ φ t u f g p p' q q' r. ends (map ρ ks) (map φ ks) t u r (p ∙ sym p');
     }

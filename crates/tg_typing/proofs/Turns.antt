@@ -31,7 +31,7 @@ pub record Makes {A B C : Type 0} (old mid : List Node) (read : Assignment → A
   pub there : (ρ : Assignment) (b : B) → Fits ρ mid → First ρ (read ρ) → Second ρ b → Whole ρ (make (read ρ) b)
   pub back : (ρ : Assignment) (c : C) → Fits ρ old → Whole ρ c →
       (a : A) × First ρ a × ((φ : Assignment) → Fits φ mid → Agree (length old) φ ρ → read φ ≡ a → (b : B) × Second φ b × (make a b ≡ c))
-  pub apart : (ρ φ : Assignment) (b b' : B) → Agree (length old) ρ φ → First ρ (read ρ) → First φ (read φ) → Second ρ b → Second φ b' →
+  pub apart : (ρ φ : Assignment) (b b' : B) → Fits ρ mid → Fits φ mid → First ρ (read ρ) → First φ (read φ) → Second ρ b → Second φ b' →
       make (read ρ) b ≡ make (read φ) b' → (read ρ ≡ read φ) × (b ≡ b')
 
 module _ {A B C : Type 0} {old mid : List Node} {read : Assignment → A} {First : Assignment → A → Type 0} {Second : Assignment → B → Type 0}
@@ -58,7 +58,7 @@ module _ {A B C : Type 0} {old mid : List Node} {read : Assignment → A} {First
     determined = λ ρ φ f g e h.
         let f' = second.older ρ f in
         let g' = second.older φ g in
-        let both = makes.apart ρ φ (more ρ) (more φ) e (first.sound ρ f') (first.sound φ g') (second.sound ρ f) (second.sound φ g) h in
+        let both = makes.apart ρ φ (more ρ) (more φ) f' g' (first.sound ρ f') (first.sound φ g') (second.sound ρ f) (second.sound φ g) h in
         second.determined ρ φ f g (first.determined ρ φ f' g' e both.0) both.1;
     local = λ ρ φ e. λ i. make (first.local ρ φ (agree_below second.longer e) i) (second.local ρ φ e i);
   }

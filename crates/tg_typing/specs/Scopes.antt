@@ -14,6 +14,9 @@ pub record Scope : Type 0 where
   pub vars : List ℕ
   pub locs : List ℕ
 
+abbrev pub with_locs : Scope → List ℕ → Scope
+with_locs s locs = record { parameters = s.parameters; vars = s.vars; locs = locs }
+
 abbrev pub IsScope : ℕ → Scope → Type 0
 IsScope n s = AreBelow n s.parameters × AreBelow n s.vars × AreBelow n s.locs
 
