@@ -5,3 +5,4 @@ pub mod Leaves
 pub mod UseArms
 pub mod Frames
 pub mod LetArm
+pub mod CaseArm

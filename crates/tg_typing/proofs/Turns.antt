@@ -1,5 +1,5 @@
 -- Steps of typing, one after another.
-use Rattle.std.proofs.Common.{ℕ, ◌≡◌, ◌<◌, ◌≤◌, Bool, true, false, List, [], ◌∷◌, length, refl, sym, ◌∙◌, subst, arith}
+use Rattle.std.proofs.Common.{ℕ, ◌≡◌, ◌<◌, ◌≤◌, Bool, true, false, List, [], ◌∷◌, length, refl, sym, ◌∙◌, subst, arith, ap}
 use Rattle.std.specs.Prelude.{map}
 use Rattle.tg_model.specs.Types.{Ty}
 use Rattle.tg_types.specs.Substitutions.{Assignment}
@@ -161,4 +161,29 @@ planted {old} {new} ks P g b sound only = record {
       record { types = x.types; fits = x.fits; same = e; reads = only ρ x.types ts x.fits e w };
   determined = λ ρ φ f h e r. record { at = g.determined ρ φ f h e.at };
   local = λ ρ φ e. same_types ks b e;
+}
+
+-- what is read of a table that grows on by declared types
+pub grown_on : {A : Type 0} {old mid new : List Node} {read : Assignment → A} {Asked : Assignment → A → Type 0} → Grown old mid A read Asked →
+    Grows mid new → Grown old new A read Asked
+grown_on {A} {old} {mid} {new} {read} {Asked} first g = grown_in_turn first makes (grown_of g) where
+  makes : Makes old mid read Asked Nothing (λ a b. a) Asked
+  makes = record {
+    there = λ ρ b f p q. p;
+    back = λ ρ a f w. (a, w, λ φ g e r. (tt, tt, refl));
+    apart = λ ρ φ b c f g p p' q q' r. (r, refl);
+  }
+
+-- what is read, and the type of an old node
+pub with_named : {A : Type 0} {old new : List Node} {read : Assignment → A} {Asked : Assignment → A → Type 0} (e : ℕ) → e < length old →
+    Grown old new A read Asked → Grown old new (Ty × A) (λ ρ. (ρ e, read ρ)) (λ ρ x. (x.0 ≡ ρ e) × Asked ρ x.1)
+with_named {A} {old} {new} {read} {Asked} e h first = record {
+  longer = first.longer;
+  older = first.older;
+  sound = λ ρ f. (refl, first.sound ρ f);
+  complete = λ ρ x f w.
+      let y = first.complete ρ x.1 f w.1 in
+      record { types = y.types; fits = y.fits; same = y.same; reads = λ i. ((y.same.at e h ∙ sym w.0) i, y.reads i) };
+  determined = λ ρ φ f g a r. first.determined ρ φ f g a (ap (λ x. x.1) r);
+  local = λ ρ φ a. λ i. (a.at e (let l = first.longer in omega arith) i, first.local ρ φ a i);
 }

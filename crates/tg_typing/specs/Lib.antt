@@ -1,3 +1,4 @@
 pub mod Growing
 pub mod Scopes
 pub mod Uses
+pub mod Cases
