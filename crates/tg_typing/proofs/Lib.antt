@@ -6,3 +6,4 @@ pub mod UseArms
 pub mod Frames
 pub mod LetArm
 pub mod CaseArm
+pub mod Conclusions

@@ -2,3 +2,4 @@ pub mod Growing
 pub mod Scopes
 pub mod Uses
 pub mod Cases
+pub mod Counts
