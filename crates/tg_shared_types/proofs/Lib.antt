@@ -2,7 +2,7 @@ pub mod NodeLaws
 mod JoinLaws
 mod UniteLaws
 pub mod PartLaws
-mod Sizes
+pub mod Sizes
 mod MarkLaws
 pub mod GrowthLaws
 mod VisitLaws

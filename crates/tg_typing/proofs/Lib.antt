@@ -7,3 +7,4 @@ pub mod Frames
 pub mod LetArm
 pub mod CaseArm
 pub mod Conclusions
+pub mod Standing

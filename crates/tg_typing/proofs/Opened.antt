@@ -1,5 +1,5 @@
 -- Open nodes, whose types are asked nothing.
-use Rattle.std.proofs.Common.{ℕ, zero, suc, ◌≡◌, ◌<◌, ◌≤◌, List, [], ◌∷◌, ◌++◌, length, nat_eq, if◌then◌else◌, refl, sym, ◌∙◌, ap, subst, arith, inl, inr}
+use Rattle.std.proofs.Common.{ℕ, ◌+◌, zero, suc, ◌≡◌, ◌<◌, ◌≤◌, List, [], ◌∷◌, ◌++◌, length, nat_eq, if◌then◌else◌, refl, sym, ◌∙◌, ap, subst, arith, inl, inr}
 use Rattle.std.specs.Prelude.{map}
 use Rattle.std.proofs.lemmas.Bool.{eq-eqb}
 use Rattle.std.proofs.lemmas.Bool.Decides.{eqb_tells}
@@ -10,6 +10,7 @@ use Rattle.tg_shared_types.specs.declared.nodes.Node.TheVariants.{Open}
 use Rattle.tg_shared_types.specs.Nodes.{Fits, Says, AreBelow, IsNodeTable, node_at}
 use Rattle.tg_shared_types.proofs.NodeLaws.{pushed_old, pushed_new, pushed_length}
 use Rattle.tg_shared_types.proofs.PartLaws.{named_parts, says_same}
+use Rattle.tg_typing.specs.Nodes.{AreOpened}
 use Rattle.tg_typing.specs.Growing.{Grown}
 use Rattle.tg_typing.proofs.Turns.{Makes, grown_in_turn, agree_itself}
 
@@ -60,10 +61,6 @@ module _ (ns : List Node) (table : IsNodeTable ns) where
     };
     local = λ ρ φ e. e.at (length ns) (let l = pushed_length ns Open in omega arith);
   }
-
--- as many open nodes as a declaration has type parameters
-abbrev pub AreOpened : List Node → List Node → List ℕ → ℕ → Type 0
-AreOpened old new ks n = AreBelow (length new) ks × Grown old new (List Ty) (λ ρ. map ρ ks) (λ ρ ts. length ts ≡ n)
 
 pub none_opened : (ns : List Node) → AreOpened ns ns [] 0
 none_opened ns = (
@@ -128,3 +125,11 @@ opened_next old mid ks n table o =
       back = λ ρ ts f w. let x = split n ts w in (x.0, x.2, λ φ g e r. (x.1, tt, x.3));
       apart = λ ρ φ t u f g p p' q q' r. ends (map ρ ks) (map φ ks) t u r (p ∙ sym p');
     }
+
+-- the same of a table and a list that are given by equations
+pub opened_on : (old mid new : List Node) (ks longer : List ℕ) (k n : ℕ) → IsNodeTable mid → AreOpened old mid ks n → new ≡ mid ++ Open ∷ [] →
+    k ≡ length mid → longer ≡ ks ++ k ∷ [] → AreOpened old new longer (n + 1)
+opened_on old mid new ks longer k n table o e place l =
+    let s : suc n ≡ n + 1 = omega arith in
+    subst (AreOpened old new longer) s (subst (λ x. AreOpened old new x (suc n)) (sym (l ∙ ap (λ x. ks ++ x ∷ []) place))
+    (subst (λ x. AreOpened old x (ks ++ length mid ∷ []) (suc n)) (sym e) (opened_next old mid ks n table o)))

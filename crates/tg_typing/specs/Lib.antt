@@ -3,3 +3,5 @@ pub mod Scopes
 pub mod Uses
 pub mod Cases
 pub mod Counts
+pub mod View
+pub mod Nodes
