@@ -3,3 +3,10 @@ pub mod Again
 pub mod CoreTypes
 pub mod KnownTerms
 pub mod Widening
+pub mod CoreWidening
+pub mod KeptTypes
+pub mod Names
+pub mod KeptAlong
+pub mod KeepDatatypes
+pub mod NoFaults
+pub mod KeptWithDatatype

@@ -12,14 +12,14 @@ use Rattle.tg_accept.specs.Resolved.{Head, zero_head, successor_head, of, Resolv
 use Rattle.tg_accept.specs.ResolvedTyping.{head_at, IsTypingOf, AreTypingsOf, AreBranchTypings}
 use Rattle.tg_accept.specs.Laws.{Widens, TypingsWiden}
 
-front : {A : Type 0} (xs ys : List A) (k : ℕ) (x : A) → slice_get xs k ≡ Some x → slice_get (xs ++ ys) k ≡ Some x
+pub front : {A : Type 0} (xs ys : List A) (k : ℕ) (x : A) → slice_get xs k ≡ Some x → slice_get (xs ++ ys) k ≡ Some x
 front xs ys k x e = get_left xs ys k (slice_get_within xs k x e) ∙ e
 
-front_numbered : {A : Type 0} (xs ys : List A) (n : ℕ) (x : A) → numbered xs n ≡ Some x → numbered (xs ++ ys) n ≡ Some x
+pub front_numbered : {A : Type 0} (xs ys : List A) (n : ℕ) (x : A) → numbered xs n ≡ Some x → numbered (xs ++ ys) n ≡ Some x
 front_numbered xs ys zero x e = cc e
 front_numbered xs ys (suc n) x e = front xs ys n x e
 
-constructors_append : (d : ℕ) (xs ys : List Datatype) → (rest : List Owned) × (constructors_from d (xs ++ ys) ≡ constructors_from d xs ++ rest)
+pub constructors_append : (d : ℕ) (xs ys : List Datatype) → (rest : List Owned) × (constructors_from d (xs ++ ys) ≡ constructors_from d xs ++ rest)
 constructors_append d [] ys = (constructors_from d ys, refl)
 constructors_append d (x ∷ xs) ys =
     let p = constructors_append (suc d) xs ys in
@@ -27,15 +27,15 @@ constructors_append d (x ∷ xs) ys =
     (p.0, ap (λ l. here ++ l) p.1 ∙ sym (append_assoc here (constructors_from (suc d) xs) p.0))
 
 module _ (th wide : Theory) (w : Widens th wide) where
-  same_constructor : (c : ℕ) (o : Owned) → constructor_at th c ≡ Some o → constructor_at wide c ≡ Some o
+  pub same_constructor : (c : ℕ) (o : Owned) → constructor_at th c ≡ Some o → constructor_at wide c ≡ Some o
   same_constructor c o e =
       let p = constructors_append 1 th.datatypes w.more_datatypes in
       ap (λ l. numbered l c) (ap (constructors_from 1) w.datatypes ∙ p.1) ∙ front_numbered (constructors_from 1 th.datatypes) p.0 c o e
 
-  same_function : (f : ℕ) (x : Function) → numbered th.functions f ≡ Some x → numbered wide.functions f ≡ Some x
+  pub same_function : (f : ℕ) (x : Function) → numbered th.functions f ≡ Some x → numbered wide.functions f ≡ Some x
   same_function f x e = ap (λ l. numbered l f) w.functions ∙ front_numbered th.functions w.more_functions f x e
 
-  same_datatype : (n : ℕ) (us : List Ty) → IsDatatype th n us → IsDatatype wide n us
+  pub same_datatype : (n : ℕ) (us : List Ty) → IsDatatype th n us → IsDatatype wide n us
   same_datatype zero us h = h
   same_datatype (suc d) us (x, is, count) = (x, ap (λ l. slice_get l d) w.datatypes ∙ front th.datatypes w.more_datatypes d x is, count)
 

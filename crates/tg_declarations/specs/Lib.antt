@@ -1,0 +1,4 @@
+pub mod Code
+pub mod Inside
+pub mod Owners
+pub mod View
