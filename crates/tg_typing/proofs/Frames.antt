@@ -1,12 +1,14 @@
 -- How a use is framed: nodes for what it is used at, its arguments and its answer, the last united with the node of the whole.
-use Rattle.std.proofs.Common.{ℕ, ◌≡◌, ◌<◌, Bool as Truth, true, false, List, length, refl, sym, ◌∙◌, ap, arith}
+use Rattle.std.proofs.Common.{ℕ, ◌≡◌, ◌<◌, Bool as Truth, true, false, List, length, refl, sym, ◌∙◌, ap, subst, arith}
 use Rattle.std.specs.Prelude.{map, Option, Some, None}
+use Rattle.tg_model.specs.Types.{Ty}
 use Rattle.tg_types.specs.Substitutions.{Assignment}
 use Rattle.tg_shared_types.specs.declared.nodes.Node.{Node}
 use Rattle.tg_shared_types.specs.Nodes.{Fits, AreBelow}
 use Rattle.tg_shared_types.specs.Growth.{Grows}
 use Rattle.tg_shared_types.specs.Uniting.{Unites}
 use Rattle.tg_typing.specs.Growing.{Agree, Grown}
+use Rattle.tg_typing.specs.Frames.{nodes_if, Ends}
 use Rattle.tg_typing.specs.Uses.{Use, IsUsed, Frames}
 use Rattle.tg_typing.proofs.Turns.{Makes, in_turn, grown_in_turn, grown_united, united, Meet}
 use Rattle.tg_typing.proofs.Scoped.{below_more}
@@ -23,10 +25,6 @@ pub record HasNodes {A : Type 0} (mid : List Node) (read : Assignment → A) (us
   pub below : AreBelow (length mid) es
   pub answer : (ρ : Assignment) → Fits ρ mid → ρ top ≡ (use_of (read ρ)).answer
   pub arguments : (ρ : Assignment) → Fits ρ mid → map ρ es ≡ (use_of (read ρ)).arguments
-
-abbrev pub nodes_if : Truth → List ℕ → Option (List ℕ)
-nodes_if true es = Some es
-nodes_if false es = None
 
 module _ {A : Type 0} {old start mid : List Node} {read : Assignment → A} {First : Assignment → A → Type 0} {Uses : Assignment → Use → Type 0}
     {use_of : A → Use} (first : Grown old start A read First) (are : AreUses First Uses use_of) (g : Grows start mid) (es : List ℕ) (top e : ℕ)
@@ -68,3 +66,15 @@ module _ {A : Type 0} {old start mid : List Node} {read : Assignment → A} {Fir
         inside = below_more (length mid) (length new) es (let l = u.long in omega arith) nodes.below;
       }
   framed new false u = in_turn first makes new false (united new top e false g nodes.inside e_mid u)
+
+-- the same from what is promised of the nodes
+pub ends_framed : (old start new : List Node) (us : List ℕ) (First : Assignment → List Ty → Type 0) (Uses : Assignment → Use → Type 0)
+    (at arguments : List Ty → List Ty) (answer : List Ty → Ty) (e : ℕ) (found : Option (List ℕ)) → Grown old start (List Ty) (λ ρ. map ρ us) First →
+    AreUses First Uses (λ ts. record { at = at ts; arguments = arguments ts; answer = answer ts }) → e < length old →
+    Ends start new us arguments answer e found → Frames old new Uses e found
+ends_framed old start new us First Uses at arguments answer e found first are h ends =
+    let c = ends.closes in
+    subst (Frames old new Uses e) (sym c.2) (framed first are ends.grows ends.es ends.top e nodes h new c.0 c.1)
+    where
+  nodes : HasNodes ends.mid (λ ρ. map ρ us) (λ ts. record { at = at ts; arguments = arguments ts; answer = answer ts }) ends.es ends.top
+  nodes = record { inside = ends.inside; below = ends.below; answer = ends.answers; arguments = ends.takes }

@@ -8,3 +8,4 @@ pub mod LetArm
 pub mod CaseArm
 pub mod Conclusions
 pub mod Standing
+pub mod FrameLaws

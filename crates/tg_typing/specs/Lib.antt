@@ -5,3 +5,6 @@ pub mod Cases
 pub mod Counts
 pub mod View
 pub mod Nodes
+pub mod Contexts
+pub mod Frames
+pub mod Operators

@@ -1,7 +1,10 @@
 //! The types of terms, found by a table of shared types.
 #![tactic(auto)]
 
+mod contexts;
+mod framing;
 mod opening;
+mod operators;
 mod resolved;
 
 pub use resolved::{Branch, Head, Resolved};
