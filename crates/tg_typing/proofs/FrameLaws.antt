@@ -69,7 +69,7 @@ given ns ks b = record {
 }
 
 -- constructors
-to_datatype : (th : Theory) (d k : ℕ) (ts : List Ty) → parameters_of th.datatypes d ≡ Some k → length ts ≡ k → IsDatatype th d ts
+pub to_datatype : (th : Theory) (d k : ℕ) (ts : List Ty) → parameters_of th.datatypes d ≡ Some k → length ts ≡ k → IsDatatype th d ts
 to_datatype th zero k ts e l = empty ts (l ∙ (let f : k ≡ 0 = cc e in f)) where
   empty : (ts : List Ty) → length ts ≡ 0 → ts ≡ []
   empty [] e = refl

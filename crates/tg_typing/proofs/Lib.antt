@@ -9,3 +9,6 @@ pub mod CaseArm
 pub mod Conclusions
 pub mod Standing
 pub mod FrameLaws
+pub mod ResolvedSizes
+pub mod CaseNodes
+pub mod WalkLaws

@@ -8,3 +8,4 @@ pub mod Nodes
 pub mod Contexts
 pub mod Frames
 pub mod Operators
+pub mod Walks

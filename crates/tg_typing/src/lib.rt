@@ -1,6 +1,7 @@
 //! The types of terms, found by a table of shared types.
 #![tactic(auto)]
 
+mod cases;
 mod contexts;
 mod framing;
 mod opening;
