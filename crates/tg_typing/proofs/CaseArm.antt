@@ -19,6 +19,15 @@ use Rattle.tg_typing.specs.Cases.{HeadNodes}
 use Rattle.tg_typing.proofs.Turns.{Makes, in_turn, stuck_first, with_named, planted, same_types, agree_itself}
 use Rattle.tg_typing.proofs.Scoped.{moved, scope_more, below_more}
 
+pub below_both : (m : ℕ) (ks ls : List ℕ) → AreBelow m ks → AreBelow m ls → AreBelow m (ks ++ ls)
+below_both m [] ls b c = c
+below_both m (k ∷ ks) ls b c = (b.0, below_both m ks ls b.1 c)
+
+pub below_reverse : (m : ℕ) (ks : List ℕ) → AreBelow m ks → AreBelow m (reverse ks)
+below_reverse m [] b = tt
+below_reverse m (k ∷ ks) b =
+    subst (AreBelow m) (sym (reverse-append (k ∷ []) ks)) (below_both m (reverse ks) (k ∷ []) (below_reverse m ks b.1) (b.0, tt))
+
 length_map : (ρ : Assignment) (ls : List ℕ) → length (map ρ ls) ≡ length ls
 length_map ρ [] = refl
 length_map ρ (l ∷ ls) = ap suc (length_map ρ ls)
@@ -54,15 +63,6 @@ module _ (th : Theory) (self : Option Function) (s : Scope) (n : ℕ) (us : List
 
   locs_types : (ρ : Assignment) (ks : List ℕ) → map ρ (reverse ks ++ s.locs) ≡ reverse (map ρ ks) ++ map ρ s.locs
   locs_types ρ ks = map-append ρ (reverse ks) s.locs ∙ ap (λ x. x ++ map ρ s.locs) (map-reverse ρ ks)
-
-  below_both : (m : ℕ) (ks ls : List ℕ) → AreBelow m ks → AreBelow m ls → AreBelow m (ks ++ ls)
-  below_both m [] ls b c = c
-  below_both m (k ∷ ks) ls b c = (b.0, below_both m ks ls b.1 c)
-
-  below_reverse : (m : ℕ) (ks : List ℕ) → AreBelow m ks → AreBelow m (reverse ks)
-  below_reverse m [] b = tt
-  below_reverse m (k ∷ ks) b =
-      subst (AreBelow m) (sym (reverse-append (k ∷ []) ks)) (below_both m (reverse ks) (k ∷ []) (below_reverse m ks b.1) (b.0, tt))
 
   pub scope_inner : (m : ℕ) (ks : List ℕ) → IsScope m s → AreBelow m ks → IsScope m (Inner ks)
   scope_inner m ks scope b = (scope.0, scope.1, below_both m (reverse ks) s.locs (below_reverse m ks b) scope.2)

@@ -42,9 +42,9 @@ case_nodes th n k old mid new us whole node params opens table names shut reads 
       inside = omega (arith, pushed_length mid node);
       reads = λ ρ f. reads ρ (pushed_says mid node table names ρ f);
     }))
-    where
-  g : Grown old (mid ++ node ∷ []) (List Ty) (λ ρ. map ρ us) (λ ρ ts. length ts ≡ k)
-  g = grown_on opens.1 (grows_pushed mid node table names shut)
+  where
+    g : Grown old (mid ++ node ∷ []) (List Ty) (λ ρ. map ρ us) (λ ρ ts. length ts ≡ k)
+    g = grown_on opens.1 (grows_pushed mid node table names shut)
 
 pub case_of_nat : (th : Theory) (n k : ℕ) (old mid new : List Node) (us : List ℕ) (whole : ℕ) → n ≡ 0 → parameters_of th.datatypes n ≡ Some k →
     AreOpened old mid us k → IsNodeTable mid → new ≡ mid ++ Nat ∷ [] → whole ≡ length mid → CaseNodes th n old new us whole

@@ -95,10 +95,12 @@ con_uses : (th : Theory) (c k : ℕ) (o : Owned) → constructor_at th c ≡ Som
 con_uses th c k o is params = record {
   there = λ ρ ts l. (o, is, to_datatype th o.datatype k ts params l, refl, refl);
   back = λ ρ u w.
-      let p : w.0 ≡ o = (let q : Some w.0 ≡ Some o = sym w.1 ∙ is in cc q) in
-      (u.at, from_datatype th o.datatype k u.at params (subst (λ (x : Owned). IsDatatype th x.datatype u.at) p w.2),
-      same_use refl (ap (λ (x : Owned). map (instance u.at) x.constructor.arguments) (sym p) ∙ sym w.4)
-      (ap (λ (x : Owned). applied x.datatype (tys u.at)) (sym p) ∙ sym w.3));
+      let p : w.0 ≡ o = (let q : Some w.0 ≡ Some o = sym w.1 ∙ is in cc q) in (
+        u.at,
+        from_datatype th o.datatype k u.at params (subst (λ (x : Owned). IsDatatype th x.datatype u.at) p w.2),
+        same_use refl (ap (λ (x : Owned). map (instance u.at) x.constructor.arguments) (sym p) ∙ sym w.4)
+            (ap (λ (x : Owned). applied x.datatype (tys u.at)) (sym p) ∙ sym w.3),
+      );
   apart = λ ρ φ a b p q r. ap (λ (u : Use). u.at) r;
 }
 
@@ -121,9 +123,9 @@ con_framed th old start mid late new us es k c e top o args found is same params
           ∙ ap (map (instance (map ρ us))) (sym same);
       closes = subst (λ x. Closes (mid ++ App o.datatype us ∷ []) new x e es found) place (subst (λ x. Closes x new top e es found) pushed closes);
     })
-    where
-  names : AreBelow (length mid) us
-  names = below_more (length start) (length mid) us plants.grows.longer opens.0
+  where
+    names : AreBelow (length mid) us
+    names = below_more (length start) (length mid) us plants.grows.longer opens.0
 
 -- functions
 pub signature_ends : (old mid late new : List Node) (us es : List ℕ) (e top : ℕ) (args : List declared.Ty) (t : declared.Ty) (found : Option (List ℕ)) →
@@ -147,18 +149,20 @@ pub function_framed : (th : Theory) (old start new : List Node) (us : List ℕ) 
 function_framed th old start new us f e x found is opens h ends =
     ends_framed old start new us (λ ρ ts. length ts ≡ x.parameters) (λ ρ. UsesFunction th f) (λ ts. ts) (λ ts. map (instance ts) x.arguments)
     (λ ts. instance ts x.answer) e found opens.1 uses h ends
-    where
-  uses : AreUses (λ ρ ts. length ts ≡ x.parameters) (λ ρ. UsesFunction th f)
-      (λ ts. record { at = ts; arguments = map (instance ts) x.arguments; answer = instance ts x.answer })
-  uses = record {
-    there = λ ρ ts l. (x, is, l, refl, refl);
-    back = λ ρ u w.
-        let p : w.0 ≡ x = (let q : Some w.0 ≡ Some x = sym w.1 ∙ is in cc q) in
-        (u.at, w.2 ∙ ap (λ (y : Function). y.parameters) p,
-        same_use refl (ap (λ (y : Function). map (instance u.at) y.arguments) (sym p) ∙ sym w.4)
-        (ap (λ (y : Function). instance u.at y.answer) (sym p) ∙ sym w.3));
-    apart = λ ρ φ a b p q r. ap (λ (u : Use). u.at) r;
-  }
+  where
+    uses : AreUses (λ ρ ts. length ts ≡ x.parameters) (λ ρ. UsesFunction th f)
+        (λ ts. record { at = ts; arguments = map (instance ts) x.arguments; answer = instance ts x.answer })
+    uses = record {
+      there = λ ρ ts l. (x, is, l, refl, refl);
+      back = λ ρ u w.
+          let p : w.0 ≡ x = (let q : Some w.0 ≡ Some x = sym w.1 ∙ is in cc q) in (
+            u.at,
+            w.2 ∙ ap (λ (y : Function). y.parameters) p,
+            same_use refl (ap (λ (y : Function). map (instance u.at) y.arguments) (sym p) ∙ sym w.4)
+                (ap (λ (y : Function). instance u.at y.answer) (sym p) ∙ sym w.3),
+          );
+      apart = λ ρ φ a b p q r. ap (λ (u : Use). u.at) r;
+    }
 
 pub own_framed : (self : Option Function) (old new : List Node) (ks : List ℕ) (e : ℕ) (x : Function) (found : Option (List ℕ)) → self ≡ Some x →
     AreBelow (length old) ks → e < length old →
@@ -166,18 +170,20 @@ pub own_framed : (self : Option Function) (old new : List Node) (ks : List ℕ) 
 own_framed self old new ks e x found is below h ends =
     ends_framed old old new ks (λ ρ ts. ts ≡ map ρ ks) (λ ρ. UsesOwn self (map ρ ks)) (λ ts. ts) (λ ts. map (instance ts) x.arguments)
     (λ ts. instance ts x.answer) e found (given old ks below) uses h ends
-    where
-  uses : AreUses (λ ρ ts. ts ≡ map ρ ks) (λ ρ. UsesOwn self (map ρ ks))
-      (λ ts. record { at = ts; arguments = map (instance ts) x.arguments; answer = instance ts x.answer })
-  uses = record {
-    there = λ ρ ts l. (x, is, l, refl, refl);
-    back = λ ρ u w.
-        let p : w.0 ≡ x = (let q : Some w.0 ≡ Some x = sym w.1 ∙ is in cc q) in
-        (u.at, w.2,
-        same_use refl (ap (λ (y : Function). map (instance u.at) y.arguments) (sym p) ∙ sym w.4)
-        (ap (λ (y : Function). instance u.at y.answer) (sym p) ∙ sym w.3));
-    apart = λ ρ φ a b p q r. ap (λ (u : Use). u.at) r;
-  }
+  where
+    uses : AreUses (λ ρ ts. ts ≡ map ρ ks) (λ ρ. UsesOwn self (map ρ ks))
+        (λ ts. record { at = ts; arguments = map (instance ts) x.arguments; answer = instance ts x.answer })
+    uses = record {
+      there = λ ρ ts l. (x, is, l, refl, refl);
+      back = λ ρ u w.
+          let p : w.0 ≡ x = (let q : Some w.0 ≡ Some x = sym w.1 ∙ is in cc q) in (
+            u.at,
+            w.2,
+            same_use refl (ap (λ (y : Function). map (instance u.at) y.arguments) (sym p) ∙ sym w.4)
+                (ap (λ (y : Function). instance u.at y.answer) (sym p) ∙ sym w.3),
+          );
+      apart = λ ρ φ a b p q r. ap (λ (u : Use). u.at) r;
+    }
 
 -- types as they stand
 pub stands_ends : (old mid late new : List Node) (es : List ℕ) (e top : ℕ) (inputs : List Ty) (answer : Ty) (found : Option (List ℕ)) →
@@ -199,13 +205,13 @@ pub program_framed : (th : Theory) (old new : List Node) (e : ℕ) (g : Program)
     Ends old new [] (λ ts. g.inputs) (λ ts. g.answer) e found → Frames old new (λ ρ. UsesProgram th) e found
 program_framed th old new e g found is h ends =
     ends_framed old old new [] (λ ρ ts. ts ≡ []) (λ ρ. UsesProgram th) (λ ts. ts) (λ ts. g.inputs) (λ ts. g.answer) e found (given old [] tt) uses h ends
-    where
-  uses : AreUses (λ ρ ts. ts ≡ []) (λ ρ. UsesProgram th) (λ ts. record { at = ts; arguments = g.inputs; answer = g.answer })
-  uses = record {
-    there = λ ρ ts l. (l, ap (λ (x : Program). x.answer) (sym is), ap (λ (x : Program). x.inputs) (sym is));
-    back = λ ρ u w. (u.at, w.0, same_use refl (ap (λ (x : Program). x.inputs) (sym is) ∙ sym w.2) (ap (λ (x : Program). x.answer) (sym is) ∙ sym w.1));
-    apart = λ ρ φ a b p q r. ap (λ (u : Use). u.at) r;
-  }
+  where
+    uses : AreUses (λ ρ ts. ts ≡ []) (λ ρ. UsesProgram th) (λ ts. record { at = ts; arguments = g.inputs; answer = g.answer })
+    uses = record {
+      there = λ ρ ts l. (l, ap (λ (x : Program). x.answer) (sym is), ap (λ (x : Program). x.inputs) (sym is));
+      back = λ ρ u w. (u.at, w.0, same_use refl (ap (λ (x : Program). x.inputs) (sym is) ∙ sym w.2) (ap (λ (x : Program). x.answer) (sym is) ∙ sym w.1));
+      apart = λ ρ φ a b p q r. ap (λ (u : Use). u.at) r;
+    }
 
 -- one open node
 head : List Ty → Ty
@@ -243,25 +249,25 @@ choice_framed old mid late new es e side condition found table opened at other p
           (ap ρ place ∙ pushed_says mid Bool other tt ρ (subst (Fits ρ) pushed f));
       closes = closes;
     })
-    where
-  l : length mid ≡ suc (length old)
-  l = ap length opened ∙ pushed_length old Open
+  where
+    l : length mid ≡ suc (length old)
+    l = ap length opened ∙ pushed_length old Open
 
-  m : length late ≡ suc (length mid)
-  m = ap length pushed ∙ pushed_length mid Bool
+    m : length late ≡ suc (length mid)
+    m = ap length pushed ∙ pushed_length mid Bool
 
-  g : Grows mid late
-  g = subst (Grows mid) (sym pushed) (grows_pushed mid Bool other tt (λ o. cc))
+    g : Grows mid late
+    g = subst (Grows mid) (sym pushed) (grows_pushed mid Bool other tt (λ o. cc))
 
-  opens : AreOpened old mid (side ∷ []) 1
-  opens = subst (λ x. AreOpened old x (side ∷ []) 1) (sym opened) (subst (λ x. AreOpened old (old ++ Open ∷ []) (x ∷ []) 1) (sym at) (one_opened old table))
+    opens : AreOpened old mid (side ∷ []) 1
+    opens = subst (λ x. AreOpened old x (side ∷ []) 1) (sym opened) (subst (λ x. AreOpened old (old ++ Open ∷ []) (x ∷ []) 1) (sym at) (one_opened old table))
 
-  uses : AreUses (λ ρ ts. length ts ≡ 1) (λ ρ. UsesChoice) (λ ts. record { at = []; arguments = bool ∷ head ts ∷ head ts ∷ []; answer = head ts })
-  uses = record {
-    there = λ ρ ts p. (refl, refl);
-    back = λ ρ u w. (u.answer ∷ [], refl, same_use (sym w.0) (sym w.1) refl);
-    apart = λ ρ φ a b p q r. same_head a b p q (ap (λ (u : Use). u.answer) r);
-  }
+    uses : AreUses (λ ρ ts. length ts ≡ 1) (λ ρ. UsesChoice) (λ ts. record { at = []; arguments = bool ∷ head ts ∷ head ts ∷ []; answer = head ts })
+    uses = record {
+      there = λ ρ ts p. (refl, refl);
+      back = λ ρ u w. (u.answer ∷ [], refl, same_use (sym w.0) (sym w.1) refl);
+      apart = λ ρ φ a b p q r. same_head a b p q (ap (λ (u : Use). u.answer) r);
+    }
 
 pub equality_framed : (old mid late new : List Node) (es : List ℕ) (e side top : ℕ) (found : Option (List ℕ)) → IsNodeTable old → mid ≡ old ++ Open ∷ [] →
     side ≡ length old → IsNodeTable mid → late ≡ mid ++ Bool ∷ [] → top ≡ length mid → es ≡ side ∷ side ∷ [] → e < length old →
@@ -280,25 +286,25 @@ equality_framed old mid late new es e side top found table opened at other pushe
       takes = λ ρ f. ap (map ρ) is;
       closes = closes;
     })
-    where
-  l : length mid ≡ suc (length old)
-  l = ap length opened ∙ pushed_length old Open
+  where
+    l : length mid ≡ suc (length old)
+    l = ap length opened ∙ pushed_length old Open
 
-  m : length late ≡ suc (length mid)
-  m = ap length pushed ∙ pushed_length mid Bool
+    m : length late ≡ suc (length mid)
+    m = ap length pushed ∙ pushed_length mid Bool
 
-  g : Grows mid late
-  g = subst (Grows mid) (sym pushed) (grows_pushed mid Bool other tt (λ o. cc))
+    g : Grows mid late
+    g = subst (Grows mid) (sym pushed) (grows_pushed mid Bool other tt (λ o. cc))
 
-  opens : AreOpened old mid (side ∷ []) 1
-  opens = subst (λ x. AreOpened old x (side ∷ []) 1) (sym opened) (subst (λ x. AreOpened old (old ++ Open ∷ []) (x ∷ []) 1) (sym at) (one_opened old table))
+    opens : AreOpened old mid (side ∷ []) 1
+    opens = subst (λ x. AreOpened old x (side ∷ []) 1) (sym opened) (subst (λ x. AreOpened old (old ++ Open ∷ []) (x ∷ []) 1) (sym at) (one_opened old table))
 
-  uses : AreUses (λ ρ ts. length ts ≡ 1) (λ ρ. UsesOperator equality) (λ ts. record { at = []; arguments = head ts ∷ head ts ∷ []; answer = bool })
-  uses = record {
-    there = λ ρ ts p. (refl, ((head ts, refl), refl));
-    back = λ ρ u w. (w.1.0.0 ∷ [], refl, same_use (sym w.0) (sym w.1.0.1) (sym w.1.1));
-    apart = λ ρ φ a b p q r. same_head a b p q (let x : head a ∷ head a ∷ [] ≡ head b ∷ head b ∷ [] = ap (λ (u : Use). u.arguments) r in cc x);
-  }
+    uses : AreUses (λ ρ ts. length ts ≡ 1) (λ ρ. UsesOperator equality) (λ ts. record { at = []; arguments = head ts ∷ head ts ∷ []; answer = bool })
+    uses = record {
+      there = λ ρ ts p. (refl, ((head ts, refl), refl));
+      back = λ ρ u w. (w.1.0.0 ∷ [], refl, same_use (sym w.0) (sym w.1.0.1) (sym w.1.1));
+      apart = λ ρ φ a b p q r. same_head a b p q (let x : head a ∷ head a ∷ [] ≡ head b ∷ head b ∷ [] = ap (λ (u : Use). u.arguments) r in cc x);
+    }
 
 -- operators whose types are fixed
 pub fixed_framed : (old mid late new : List Node) (es : List ℕ) (e operand top : ℕ) (x : Fixed) (found : Option (List ℕ)) →
@@ -318,22 +324,22 @@ fixed_framed old mid late new es e operand top x found p q is h closes =
       takes = λ ρ f. ap (map ρ) is ∙ takes ρ x.is_binary (p.reads ρ (q.grows.older ρ f));
       closes = closes;
     })
-    where
-  below : (b : Truth) → operand < length late → AreBelow (length late) (if b then operand ∷ operand ∷ [] else operand ∷ [])
-  below true i = (i, (i, tt))
-  below false i = (i, tt)
+  where
+    below : (b : Truth) → operand < length late → AreBelow (length late) (if b then operand ∷ operand ∷ [] else operand ∷ [])
+    below true i = (i, (i, tt))
+    below false i = (i, tt)
 
-  takes : (ρ : Assignment) (b : Truth) → ρ operand ≡ kind_type x.operands → map ρ (if b then operand ∷ operand ∷ [] else operand ∷ []) ≡
-      (if b then kind_type x.operands ∷ kind_type x.operands ∷ [] else kind_type x.operands ∷ [])
-  takes ρ true r = λ i. r i ∷ r i ∷ []
-  takes ρ false r = λ i. r i ∷ []
+    takes : (ρ : Assignment) (b : Truth) → ρ operand ≡ kind_type x.operands → map ρ (if b then operand ∷ operand ∷ [] else operand ∷ []) ≡
+        (if b then kind_type x.operands ∷ kind_type x.operands ∷ [] else kind_type x.operands ∷ [])
+    takes ρ true r = λ i. r i ∷ r i ∷ []
+    takes ρ false r = λ i. r i ∷ []
 
-  uses : AreUses (λ ρ ts. ts ≡ []) (λ ρ. FixedUse x) (λ ts. record { at = ts; arguments = operand_types x; answer = kind_type x.answer })
-  uses = record {
-    there = λ ρ ts l. (l, refl, refl);
-    back = λ ρ u w. (u.at, w.0, same_use refl (sym w.1) (sym w.2));
-    apart = λ ρ φ a b p q r. ap (λ (u : Use). u.at) r;
-  }
+    uses : AreUses (λ ρ ts. ts ≡ []) (λ ρ. FixedUse x) (λ ts. record { at = ts; arguments = operand_types x; answer = kind_type x.answer })
+    uses = record {
+      there = λ ρ ts l. (l, refl, refl);
+      back = λ ρ u w. (u.at, w.0, same_use refl (sym w.1) (sym w.2));
+      apart = λ ρ φ a b p q r. ap (λ (u : Use). u.at) r;
+    }
 
 -- the same uses
 pub frames_same : (old new : List Node) (Uses Others : Assignment → Use → Type 0) (e : ℕ) (found : Option (List ℕ)) →

@@ -75,6 +75,6 @@ pub ends_framed : (old start new : List Node) (us : List ℕ) (First : Assignmen
 ends_framed old start new us First Uses at arguments answer e found first are h ends =
     let c = ends.closes in
     subst (Frames old new Uses e) (sym c.2) (framed first are ends.grows ends.es ends.top e nodes h new c.0 c.1)
-    where
-  nodes : HasNodes ends.mid (λ ρ. map ρ us) (λ ts. record { at = at ts; arguments = arguments ts; answer = answer ts }) ends.es ends.top
-  nodes = record { inside = ends.inside; below = ends.below; answer = ends.answers; arguments = ends.takes }
+  where
+    nodes : HasNodes ends.mid (λ ρ. map ρ us) (λ ts. record { at = at ts; arguments = arguments ts; answer = answer ts }) ends.es ends.top
+    nodes = record { inside = ends.inside; below = ends.below; answer = ends.answers; arguments = ends.takes }

@@ -12,3 +12,4 @@ pub mod FrameLaws
 pub mod ResolvedSizes
 pub mod CaseNodes
 pub mod WalkLaws
+pub mod WalkForms

@@ -24,7 +24,7 @@ use Rattle.tg_typing.specs.Scopes.{Scope, IsScope, with_locs, HasTyping, HaveTyp
 use Rattle.tg_typing.specs.Uses.{Use, IsUsed, Framed, Frames}
 use Rattle.tg_typing.specs.Frames.{use_term, IsUseOf}
 use Rattle.tg_typing.specs.Cases.{HeadNodes, BindsBranch}
-use Rattle.tg_typing.specs.Walks.{scope_in}
+use Rattle.tg_typing.specs.Walks.{scope_in, TypesTerm}
 use Rattle.tg_typing.proofs.Turns.{stuck_first}
 use Rattle.tg_typing.proofs.Scoped.{below_more, scope_more}
 use Rattle.tg_typing.proofs.UseArms.{IsApplied, use_typed, none_typed, more_typed, more_untyped, make_instance, make_compound, con_applied, call_applied, own_applied, put_applied, choice_applied, op_applied}
@@ -39,7 +39,7 @@ below_drop n ks zero b = b
 below_drop n [] (suc i) b = tt
 below_drop n (k ∷ ks) (suc i) b = below_drop n ks i b.1
 
-below_at : (n : ℕ) (ks : List ℕ) (i k : ℕ) → AreBelow n ks → i < length ks → k ≡ get_or ks i k → k < n
+pub below_at : (n : ℕ) (ks : List ℕ) (i k : ℕ) → AreBelow n ks → i < length ks → k ≡ get_or ks i k → k < n
 below_at n [] i k b h e = absurd (omega (arith, h))
 below_at n (l ∷ ks) zero k b h e = subst (λ x. x < n) (sym e) b.0
 below_at n (l ∷ ks) (suc i) k b h e = below_at n ks i k b.1 (omega (arith, h)) e
@@ -146,8 +146,8 @@ pub unused : (x : Context) (locs : List ℕ) (old : List Node) (ts : List Resolv
 unused x locs old ts used e fails =
     let is = applied_by (theory_in x) (self_in x) (scope_in x locs) (all_resolved ts) used in
     stuck_first fails (λ ρ d f w.
-      let b = is.back ρ d w.0 in
-      (b.0, (b.2, sym (is.answers b.0 b.1) ∙ ap type_of b.5 ∙ w.1)))
+    let b = is.back ρ d w.0 in
+    (b.0, (b.2, sym (is.answers b.0 b.1) ∙ ap type_of b.5 ∙ w.1)))
 
 -- what is left of the branches leads to all of them
 abbrev pub BranchesLead : Context → List ℕ → ℕ → List ℕ → ℕ → List Node → List Node → List Branch → ℕ → Type 0
@@ -155,7 +155,7 @@ BranchesLead x locs n us e old now bs i = (new : List Node) (ok : Truth) →
     Outcome now new ArmTypings (HaveBranchTypings (theory_in x) (self_in x) (scope_in x locs) n us (branches (drop i bs)) e) ok →
     Outcome old new ArmTypings (HaveBranchTypings (theory_in x) (self_in x) (scope_in x locs) n us (branches bs) e) ok
 
-inner_scope : (x : Context) (locs locs' ks : List ℕ) → locs' ≡ locs ++ ks → scope_in x locs' ≡ with_locs (scope_in x locs) (reverse ks ++ reverse locs)
+pub inner_scope : (x : Context) (locs locs' ks : List ℕ) → locs' ≡ locs ++ ks → scope_in x locs' ≡ with_locs (scope_in x locs) (reverse ks ++ reverse locs)
 inner_scope x locs locs' ks e = ap (λ l. with_locs (scope_in x locs) l) (ap reverse e ∙ reverse-append locs ks)
 
 module _ (x : Context) (locs : List ℕ) (n : ℕ) (us : List ℕ) (e : ℕ) (old now mid : List Node) (bs : List Branch) (i : ℕ) (b : Branch) (hi : i < length bs)
@@ -209,3 +209,24 @@ branches_end x locs n us e old now bs leads =
     leads now true
     (subst (λ y. Outcome now now ArmTypings (HaveBranchTypings (theory_in x) (self_in x) (scope_in x locs) n us (branches y) e) true)
     (sym (drop-length bs)) (end_typed (theory_in x) (self_in x) (scope_in x locs) n us e now))
+
+-- two more of the walk's steps, by the shapes of the code's facts
+pub longer_when : (x : Context) (old new : List Node) (locs locs' : List ℕ) (t : model.Resolved) (e : ℕ) (ok : Truth) → ok ≡ true →
+    TypesTerm x old new locs locs' t e ok → length old ≤ length new
+longer_when x old new locs locs' t e true h o = o.0.grown.longer
+longer_when x old new locs locs' t e false h o = cc h
+
+pub when_true : {old new : List Node} {A : Type 0} {Asked : Assignment → A → Type 0} (ok : Truth) → ok ≡ true → Outcome old new A Asked ok →
+    Outcome old new A Asked true
+when_true true e o = o
+when_true false e o = cc e
+
+pub when_false : (x : Context) (old new : List Node) (locs locs' : List ℕ) (t : model.Resolved) (e : ℕ) (ok : Truth) → ok ≡ false →
+    TypesTerm x old new locs locs' t e ok → IsImpossible old Typing (HasTyping (theory_in x) (self_in x) (scope_in x locs) t e)
+when_false x old new locs locs' t e false h o = o.0
+when_false x old new locs locs' t e true h o = cc h
+
+pub no_frame : (old new : List Node) (Uses : Assignment → Use → Type 0) (e : ℕ) (found : Option (List ℕ)) → ((es : List ℕ) → found ≡ Some es → ⊥) →
+    Frames old new Uses e found → IsImpossible old Use (IsUsed Uses e)
+no_frame old new Uses e None other frame = frame
+no_frame old new Uses e (Some es) other frame = absurd (other es refl)

@@ -99,6 +99,5 @@ resolved-Let t body = ap resolved (sym (rolls-Let t body)) ∙ fold-roll-Resolve
 pub resolved-Op : (o : ℕ) (ts : List Resolved) → resolved (Op o ts) ≡ model.op (operator o) (all_resolved ts)
 resolved-Op o ts = ap resolved (sym (rolls-Op o ts)) ∙ fold-roll-Resolved model.Resolved Seen step branch_step _
 
-
 pub seen-Branch : (b : Branch) → seen b ≡ record { head = head b.head; names = b.names; body = resolved b.body }
 seen-Branch b = fold-roll-Branch model.Resolved Seen step branch_step _

@@ -7,5 +7,6 @@ mod framing;
 mod opening;
 mod operators;
 mod resolved;
+mod walking;
 
 pub use resolved::{Branch, Head, Resolved};

@@ -30,8 +30,8 @@ returns c =
     (subst (λ x. PlantsAll c.open_nodes.new.table c.as_slice.result.now (types x) c.plant_all.new.table c.in_ok-es.es) c.as_slice-2.ensures
     c.in_ok-es.ensures) in
     if_ok c.close.result (λ found closes.
-      con_framed (theory_in c.args.context.now) c.args.table.now c.open_nodes.new.table c.plant_all.new.table c.push.new.self c.close.new.table c.in_ok-us.us
-      c.in_ok-es.es c.in-Some-parameters.count c.args.c c.args.expected c.in_ok-top.top (owned c.in-Some.d c.in-Some.con.now) c.in-Some.con.now.args found is refl
-      (sym c.parameters.ensures ∙ c.in-Some-parameters.is) c.in_ok-us.ensures plants c.in_ok-top.ensures.table c.in_ok-top.ensures.ok
-      c.in_ok-top.ensures.place c.requires.expected closes)
+    con_framed (theory_in c.args.context.now) c.args.table.now c.open_nodes.new.table c.plant_all.new.table c.push.new.self c.close.new.table c.in_ok-us.us
+    c.in_ok-es.es c.in-Some-parameters.count c.args.c c.args.expected c.in_ok-top.top (owned c.in-Some.d c.in-Some.con.now) c.in-Some.con.now.args found is refl
+    (sym c.parameters.ensures ∙ c.in-Some-parameters.is) c.in_ok-us.ensures plants c.in_ok-top.ensures.table c.in_ok-top.ensures.ok
+    c.in_ok-top.ensures.place c.requires.expected closes)
     c.close.ensures

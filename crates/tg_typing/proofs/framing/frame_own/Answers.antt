@@ -16,8 +16,8 @@ frame_signature-requires-clause-closed c =
 pub returns : goal.returns
 returns c =
     if_ok c.frame_signature.result (λ found ends.
-      own_framed (self_in c.args.context.now) c.args.table.now c.frame_signature.new.table c.args.context.now.parameters c.args.expected
-      (function c.in-Some.def.now) found (ap (option_map (λ (def : Bor FunDef). function def.now)) c.in-Some.is) c.requires.parameters c.requires.expected
-      (subst (λ x. Ends c.args.table.now c.frame_signature.new.table x (λ ts. map (instance ts) (map ty c.in-Some.def.now.args))
-      (λ ts. instance ts (ty c.in-Some.def.now.result)) c.args.expected found) c.as_slice.ensures ends))
+    own_framed (self_in c.args.context.now) c.args.table.now c.frame_signature.new.table c.args.context.now.parameters c.args.expected
+    (function c.in-Some.def.now) found (ap (option_map (λ (def : Bor FunDef). function def.now)) c.in-Some.is) c.requires.parameters c.requires.expected
+    (subst (λ x. Ends c.args.table.now c.frame_signature.new.table x (λ ts. map (instance ts) (map ty c.in-Some.def.now.args))
+    (λ ts. instance ts (ty c.in-Some.def.now.result)) c.args.expected found) c.as_slice.ensures ends))
     c.frame_signature.ensures

@@ -14,6 +14,6 @@ returns c =
     let plants : PlantsAll c.args.table.now c.args.us.now (types c.args.def.now.args) c.plant_all.new.table c.in_ok-es.es =
     subst (λ x. PlantsAll c.args.table.now c.args.us.now (types x) c.plant_all.new.table c.in_ok-es.es) c.as_slice.ensures c.in_ok-es.ensures in
     if_ok c.close.result (λ found closes.
-      signature_ends c.args.table.now c.plant_all.new.table c.plant.new.self c.close.new.table c.args.us.now c.in_ok-es.es c.args.expected c.in_ok-top.top
-      c.args.def.now.args c.args.def.now.result found plants c.in_ok-top.ensures closes)
+    signature_ends c.args.table.now c.plant_all.new.table c.plant.new.self c.close.new.table c.args.us.now c.in_ok-es.es c.args.expected c.in_ok-top.top
+    c.args.def.now.args c.args.def.now.result found plants c.in_ok-top.ensures closes)
     c.close.ensures

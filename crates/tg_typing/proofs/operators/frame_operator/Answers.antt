@@ -16,6 +16,6 @@ pub returns-in-Some-Fixed : goal.returns-in-Some-Fixed
 returns-in-Some-Fixed c =
     let s = fixed_uses (operator c.args.o) c.in-Some-Fixed.types (sym c.shape_of.ensures ∙ c.in-Some-Fixed.is ∙ ap Some c.in-Some-Fixed.field-0-is) in
     if_ok c.frame_fixed.result (λ found frames.
-      frames_same c.args.table.now c.frame_fixed.new.table (λ ρ. FixedUse c.in-Some-Fixed.types) (λ ρ. UsesOperator (operator c.args.o)) c.args.expected found
-      (λ ρ u. (s u).0) (λ ρ u. (s u).1) frames)
+    frames_same c.args.table.now c.frame_fixed.new.table (λ ρ. FixedUse c.in-Some-Fixed.types) (λ ρ. UsesOperator (operator c.args.o)) c.args.expected found
+    (λ ρ u. (s u).0) (λ ρ u. (s u).1) frames)
     c.frame_fixed.ensures
