@@ -1,18 +1,18 @@
 -- The nodes of a `case` and of its branches.
-use Rattle.std.proofs.Common.{ℕ, zero, suc, ◌≡◌, ◌≢◌, ◌<◌, ◌≤◌, Bool as Truth, true, false, List, [], ◌∷◌, ◌++◌, length, refl, sym, ◌∙◌, ap, subst, arith}
-use Rattle.std.specs.Prelude.{map, Option, Some, None, option_map}
-use Rattle.tg_model.specs.Types.{Ty, tys, nat, applied}
+use Rattle.std.proofs.Common.{ℕ, zero, suc, ◌≡◌, ◌≢◌, false, List, [], ◌∷◌, ◌++◌, length, refl, sym, ◌∙◌, ap, subst, arith}
+use Rattle.std.specs.Prelude.{map, Some, option_map}
+use Rattle.tg_model.specs.Types.{Ty, applied}
 use Rattle.tg_model.specs.Theory.{Theory, Owned, constructor_at, instance}
-use Rattle.tg_model.specs.TermTyping.{IsDatatype, datatype_at}
+use Rattle.tg_model.specs.TermTyping.{datatype_at}
 use Rattle.tg_types.specs.declared.types.Ty as declared
 use Rattle.tg_types.specs.Types.{ty, types}
 use Rattle.tg_types.specs.Substitutions.{Assignment}
 use Rattle.tg_shared_types.specs.declared.nodes.Node.{Node}
 use Rattle.tg_shared_types.specs.declared.nodes.Node.TheVariants.{Open, Nat, App}
-use Rattle.tg_shared_types.specs.Nodes.{Fits, Says, AreBelow, Names, IsNodeTable}
+use Rattle.tg_shared_types.specs.Nodes.{Says, AreBelow, Names, IsNodeTable}
 use Rattle.tg_shared_types.specs.Growth.{PlantsAll}
 use Rattle.tg_shared_types.proofs.NodeLaws.{pushed_length}
-use Rattle.tg_shared_types.proofs.GrowthLaws.{grows_itself, grows_pushed, pushed_says, pushed_older}
+use Rattle.tg_shared_types.proofs.GrowthLaws.{grows_pushed, pushed_says}
 use Rattle.tg_accept.specs.Resolved.{Head, successor_head, of}
 use Rattle.tg_accept.specs.ResolvedTyping.{head_at}
 use Rattle.tg_accept.proofs.Aligned.{second}

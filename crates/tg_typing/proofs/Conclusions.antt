@@ -1,5 +1,5 @@
 -- What settling the table says of typings, where the step from the table without nodes asks for a typing.
-use Rattle.std.proofs.Common.{ℕ, ◌≡◌, ◌<◌, Bool as Truth, true, false, List, [], ◌∷◌, ◌++◌, length, refl, sym, ◌∙◌, ap, subst, arith}
+use Rattle.std.proofs.Common.{ℕ, ◌≡◌, Bool as Truth, List, [], ◌∷◌, ◌++◌, length, refl, sym, ◌∙◌, ap, subst, arith}
 use Rattle.std.specs.Prelude.{map, Option}
 use Rattle.tg_model.specs.Types.{Ty, nat}
 use Rattle.tg_model.specs.Theory.{Theory, Function}
@@ -12,7 +12,7 @@ use Rattle.tg_shared_types.specs.Growth.{Grows}
 use Rattle.tg_shared_types.specs.Settled.{HasNone, HasOne, HasSeveral}
 use Rattle.tg_accept.specs.Resolved.{Resolved}
 use Rattle.tg_accept.specs.ResolvedTyping.{IsTypingOf}
-use Rattle.tg_typing.specs.Growing.{Agree, Grown, Reading, IsImpossible, Outcome}
+use Rattle.tg_typing.specs.Growing.{Agree, Reading, IsImpossible, Outcome}
 use Rattle.tg_typing.specs.Scopes.{Scope, HasTyping}
 use Rattle.tg_typing.specs.Counts.{HasNoTyping, HasOneTyping, HasTwoTypings}
 use Rattle.tg_typing.proofs.Turns.{Makes, in_turn, grown_of, Nothing}

@@ -1,23 +1,23 @@
 -- The frames of the kinds of uses.
-use Rattle.std.proofs.Common.{ℕ, zero, suc, ◌≡◌, ◌<◌, ◌≤◌, Bool as Truth, true, false, List, [], ◌∷◌, ◌++◌, length, if◌then◌else◌, refl, sym, ◌∙◌, ap, subst, arith}
+use Rattle.std.proofs.Common.{ℕ, zero, suc, ◌≡◌, ◌<◌, Bool as Truth, true, false, List, [], ◌∷◌, ◌++◌, length, if◌then◌else◌, refl, sym, ◌∙◌, ap, subst, arith}
 use Rattle.std.specs.Prelude.{map, Option, Some, None, slice_get, option_map, Result, Ok, Err, IfOk}
 use Rattle.tg_model.specs.Tree.{Operator, successor, negation, conjunction, disjunction, implication, equality, less, less_equal, plus, minus, times, divide, modulo, unnamed}
 use Rattle.tg_model.specs.Types as model
 use Rattle.tg_model.specs.Types.{Ty, nat, bool, applied, tys, elements}
 use Rattle.tg_model.specs.Theory.{Theory, Datatype, Function, Program, Owned, constructor_at, numbered, instance, instances}
-use Rattle.tg_model.specs.TermTyping.{IsDatatype, IsOperation}
+use Rattle.tg_model.specs.TermTyping.{IsDatatype}
 use Rattle.tg_types.specs.declared.types.Ty as declared
 use Rattle.tg_types.specs.Types.{ty, types}
 use Rattle.tg_types.specs.Substitutions.{Assignment}
 use Rattle.tg_shared_types.specs.declared.nodes.Node.{Node}
-use Rattle.tg_shared_types.specs.declared.nodes.Node.TheVariants.{Open, Nat, Bool, App}
+use Rattle.tg_shared_types.specs.declared.nodes.Node.TheVariants.{Open, Bool, App}
 use Rattle.tg_shared_types.specs.Nodes.{types_of, Fits, AreBelow, IsNodeTable}
 use Rattle.tg_shared_types.specs.Growth.{Grows, Plants, PlantsAll}
 use Rattle.tg_shared_types.proofs.NodeLaws.{pushed_length}
-use Rattle.tg_shared_types.proofs.GrowthLaws.{grows_itself, grows_then, grows_pushed, pushed_says, pushed_older}
-use Rattle.tg_typing.specs.Growing.{Agree, Grown, IsImpossible}
+use Rattle.tg_shared_types.proofs.GrowthLaws.{grows_then, grows_pushed, pushed_says, pushed_older}
+use Rattle.tg_typing.specs.Growing.{Grown}
 use Rattle.tg_typing.specs.Nodes.{AreOpened, Stands, AllStand}
-use Rattle.tg_typing.specs.Uses.{Use, IsUsed, Frames, UsesConstructor, UsesFunction, UsesOwn, UsesProgram, UsesChoice, UsesOperator}
+use Rattle.tg_typing.specs.Uses.{Use, Frames, UsesConstructor, UsesFunction, UsesOwn, UsesProgram, UsesChoice, UsesOperator}
 use Rattle.tg_typing.specs.Frames.{Closes, Ends, parameters_of}
 use Rattle.tg_typing.specs.Operators.{kind_type, shape_of, operand_types, FixedUse}
 use Rattle.tg_typing.specs.declared.operators.Fixed.{Fixed}
@@ -39,7 +39,7 @@ pub elements_of : (ρ : Assignment) (ks : List ℕ) → elements (types_of ρ ks
 elements_of ρ [] = refl
 elements_of ρ (k ∷ ks) = ap (λ ts. ρ k ∷ ts) (elements_of ρ ks)
 
-elements_tys : (ts : List Ty) → elements (tys ts) ≡ ts
+pub elements_tys : (ts : List Ty) → elements (tys ts) ≡ ts
 elements_tys [] = refl
 elements_tys (t ∷ ts) = ap (λ us. t ∷ us) (elements_tys ts)
 

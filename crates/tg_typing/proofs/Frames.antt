@@ -1,6 +1,6 @@
 -- How a use is framed: nodes for what it is used at, its arguments and its answer, the last united with the node of the whole.
 use Rattle.std.proofs.Common.{ℕ, ◌≡◌, ◌<◌, Bool as Truth, true, false, List, length, refl, sym, ◌∙◌, ap, subst, arith}
-use Rattle.std.specs.Prelude.{map, Option, Some, None}
+use Rattle.std.specs.Prelude.{map, Option}
 use Rattle.tg_model.specs.Types.{Ty}
 use Rattle.tg_types.specs.Substitutions.{Assignment}
 use Rattle.tg_shared_types.specs.declared.nodes.Node.{Node}

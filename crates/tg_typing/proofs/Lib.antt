@@ -13,3 +13,4 @@ pub mod ResolvedSizes
 pub mod CaseNodes
 pub mod WalkLaws
 pub mod WalkForms
+pub mod AnswerLaws

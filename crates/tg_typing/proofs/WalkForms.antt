@@ -1,18 +1,17 @@
 -- The laws of the walk in the forms that its code asks for.
-use Rattle.std.proofs.Common.{ℕ, zero, suc, ◌≡◌, ◌+◌, ◌<◌, ◌≤◌, Bool as Truth, true, false, List, [], ◌∷◌, ◌++◌, length, reverse, take, get_or, refl, sym, ◌∙◌, ap, subst, arith}
-use Rattle.std.specs.Prelude.{map, Some, slice_get}
+use Rattle.std.proofs.Common.{ℕ, zero, suc, ◌≡◌, ◌<◌, ◌≤◌, Bool as Truth, true, false, List, [], ◌∷◌, ◌++◌, length, reverse, take, get_or, refl, sym, ◌∙◌, ap, subst, arith}
+use Rattle.std.specs.Prelude.{Some}
 use Rattle.std.specs.Bool.{OnTrue}
 use Rattle.tg_model.specs.Theory.{numbered}
 use Rattle.tg_model.specs.TermTyping.{Typing, ArmTypings, IsDatatype}
-use Rattle.tg_types.specs.Substitutions.{Assignment}
 use Rattle.tg_shared_types.specs.declared.nodes.Node.{Node}
 use Rattle.tg_shared_types.specs.declared.nodes.Node.TheVariants.{Open}
 use Rattle.tg_shared_types.specs.Nodes.{AreBelow, IsNodeTable}
 use Rattle.tg_accept.specs.Resolved as model
 use Rattle.tg_typing.specs.declared.contexts.Context.{Context}
 use Rattle.tg_typing.specs.Contexts.{theory_in, self_in}
-use Rattle.tg_typing.specs.Growing.{Grown, IsImpossible, Outcome}
-use Rattle.tg_typing.specs.Scopes.{Scope, IsScope, with_locs, HasTyping, HaveBranchTypings}
+use Rattle.tg_typing.specs.Growing.{IsImpossible, Outcome}
+use Rattle.tg_typing.specs.Scopes.{IsScope, with_locs, HasTyping, HaveBranchTypings}
 use Rattle.tg_typing.specs.Cases.{CaseNodes}
 use Rattle.tg_typing.specs.Walks.{scope_in}
 use Rattle.tg_typing.proofs.Scoped.{scope_more}

@@ -8,7 +8,7 @@ use Rattle.tg_model.specs.Theory.{Theory, Function}
 use Rattle.tg_model.specs.TermTyping.{Typing, Typings, ArmTypings, none, more, end, arm, type_of, types_of}
 use Rattle.tg_types.specs.Substitutions.{Assignment}
 use Rattle.tg_shared_types.specs.declared.nodes.Node.{Node}
-use Rattle.tg_shared_types.specs.Nodes.{Fits, AreBelow}
+use Rattle.tg_shared_types.specs.Nodes.{AreBelow}
 use Rattle.tg_accept.specs.Resolved as model
 use Rattle.tg_accept.specs.ResolvedTyping.{AreTypingsOf}
 use Rattle.tg_term.specs.Operators.{operator}
@@ -17,13 +17,13 @@ use Rattle.tg_typing.specs.declared.resolved.Branch.{Branch}
 use Rattle.tg_typing.specs.declared.contexts.Context.{Context}
 use Rattle.tg_typing.specs.declared.framing.Used.{Used}
 use Rattle.tg_typing.specs.declared.framing.Used.TheVariants.{Con, Call, Own, Put, If, Op}
-use Rattle.tg_typing.specs.View.{resolved, all_resolved, branches, branched, head, seen, seen-Branch, Seen}
+use Rattle.tg_typing.specs.View.{resolved, all_resolved, branches, head, seen-Branch, Seen}
 use Rattle.tg_typing.specs.Contexts.{theory_in, self_in}
-use Rattle.tg_typing.specs.Growing.{Grown, IsImpossible, Outcome}
+use Rattle.tg_typing.specs.Growing.{IsImpossible, Outcome}
 use Rattle.tg_typing.specs.Scopes.{Scope, IsScope, with_locs, HasTyping, HaveTypings, HaveBranchTypings}
 use Rattle.tg_typing.specs.Uses.{Use, IsUsed, Framed, Frames}
 use Rattle.tg_typing.specs.Frames.{use_term, IsUseOf}
-use Rattle.tg_typing.specs.Cases.{HeadNodes, BindsBranch}
+use Rattle.tg_typing.specs.Cases.{BindsBranch}
 use Rattle.tg_typing.specs.Walks.{scope_in, TypesTerm}
 use Rattle.tg_typing.proofs.Turns.{stuck_first}
 use Rattle.tg_typing.proofs.Scoped.{below_more, scope_more}

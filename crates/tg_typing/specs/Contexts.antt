@@ -1,5 +1,5 @@
 -- What a term is typed in, as the definitions have it.
-use Rattle.std.specs.Prelude.{ℕ, ◌≡◌, List, [], Option, Some, map, option_map}
+use Rattle.std.specs.Prelude.{ℕ, ◌≡◌, [], Option, Some, option_map}
 use Rattle.tg_model.specs.Types.{tys}
 use Rattle.tg_model.specs.Theory.{Theory, Function, Owned, constructor_at, numbered}
 use Rattle.tg_shared_types.specs.Growth.{IsDeclared, AreDeclared}

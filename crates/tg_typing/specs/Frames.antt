@@ -1,5 +1,5 @@
 -- What is promised of the nodes of a use's types.
-use Rattle.std.specs.Prelude.{ℕ, zero, suc, ◌≡◌, ◌<◌, Bool as Truth, true, false, List, [], ◌∷◌, map, length, Option, Some, None, option_map, slice_get}
+use Rattle.std.specs.Prelude.{ℕ, zero, suc, ◌≡◌, ◌<◌, Bool as Truth, true, false, List, map, length, Option, Some, None, option_map, slice_get}
 use Rattle.tg_model.specs.Types.{Ty}
 use Rattle.tg_model.specs.Theory.{Theory, Datatype, Function}
 use Rattle.tg_types.specs.Substitutions.{Assignment}

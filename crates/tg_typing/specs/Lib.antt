@@ -9,3 +9,4 @@ pub mod Contexts
 pub mod Frames
 pub mod Operators
 pub mod Walks
+pub mod Answers

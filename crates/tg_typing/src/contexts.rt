@@ -4,6 +4,7 @@ use tg_declarations::{Declarations, FunDef};
 
 /// What all of a term is typed in: what is declared, the function that is being declared with the nodes of
 /// its type parameters, and the nodes of the free variables' types.
+#[derive(Drop)]
 pub(crate) struct Context<'a> {
     pub(crate) alloc: Global,
     pub(crate) declared: &'a Declarations,

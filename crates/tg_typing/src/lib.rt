@@ -7,6 +7,8 @@ mod framing;
 mod opening;
 mod operators;
 mod resolved;
+mod typings;
 mod walking;
 
 pub use resolved::{Branch, Head, Resolved};
+pub use typings::{Typings, count_typings, count_typings_at};

@@ -3,7 +3,7 @@ use tg_term::{ConId, FunId, OpId};
 use tg_types::{DataId, Name};
 
 /// A term as it is written, each word looked up. Nothing else is asked of it: whether it has a type is what
-/// [`typings`](crate::typings) tells.
+/// [`count_typings`](crate::count_typings) tells.
 #[cycle(resolved)]
 #[derive(Debug, Drop)]
 pub enum Resolved {

@@ -1,4 +1,4 @@
-use Rattle.std.proofs.Common.{◌≡◌, sym, ◌∙◌, subst}
+use Rattle.std.proofs.Common.{sym, ◌∙◌, subst}
 use Rattle.tg_typing.specs.Contexts.{theory_in}
 use Rattle.tg_typing.specs.Cases.{PlantsHead}
 use Rattle.tg_typing.specs.View.{head}

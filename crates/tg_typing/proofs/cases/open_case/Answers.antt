@@ -1,4 +1,4 @@
-use Rattle.std.proofs.Common.{◌≡◌, sym, ◌∙◌}
+use Rattle.std.proofs.Common.{sym, ◌∙◌}
 use Rattle.tg_typing.specs.Contexts.{theory_in}
 use Rattle.tg_typing.proofs.CaseNodes.{case_of_nat, case_of_data}
 use Rattle.tg_typing.proofs.cases.open_case.Goals as goal

@@ -1,4 +1,4 @@
-use Rattle.std.proofs.Common.{◌≡◌, ◌++◌, [], ◌∷◌, sym, ◌∙◌, ap, subst}
+use Rattle.std.proofs.Common.{◌≡◌, ◌++◌, [], ◌∷◌, ◌∙◌, ap}
 use Rattle.tg_typing.proofs.FrameLaws.{choice_framed, if_ok}
 use Rattle.tg_typing.proofs.framing.frame_choice.Goals as goal
 

@@ -1,4 +1,4 @@
-use Rattle.std.proofs.Common.{◌≡◌, Bor, Some, List, sym, ◌∙◌, ap, subst}
+use Rattle.std.proofs.Common.{◌≡◌, Bor, Some, sym, ◌∙◌, ap, subst}
 use Rattle.std.specs.Prelude.{option_map, map}
 use Rattle.tg_model.specs.Theory.{numbered, instance}
 use Rattle.tg_types.specs.Types.{ty}

@@ -1,6 +1,6 @@
-use Rattle.std.proofs.Common.{◌≡◌, Bor, Some, List, sym, ◌∙◌, ap, subst}
+use Rattle.std.proofs.Common.{Bor, ap, subst}
 use Rattle.std.specs.Prelude.{option_map, map}
-use Rattle.tg_model.specs.Theory.{numbered, instance}
+use Rattle.tg_model.specs.Theory.{instance}
 use Rattle.tg_types.specs.Types.{ty}
 use Rattle.tg_declarations.specs.View.{function}
 use Rattle.tg_declarations.specs.declared.definitions.FunDef.{FunDef}

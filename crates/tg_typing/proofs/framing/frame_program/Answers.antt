@@ -1,4 +1,4 @@
-use Rattle.std.proofs.Common.{ℕ, ◌≡◌, Bor, Some, None, Ok, List, [], sym, ◌∙◌, ap, subst}
+use Rattle.std.proofs.Common.{ℕ, Bor, Ok, [], sym, ◌∙◌, ap, subst}
 use Rattle.std.specs.Prelude.{option_map, map, unwrap_or}
 use Rattle.tg_types.specs.Types.{ty, types}
 use Rattle.tg_model.specs.Types.{nat}

@@ -1,4 +1,4 @@
-use Rattle.std.proofs.Common.{length, ◌≡◌, subst}
+use Rattle.std.proofs.Common.{length, subst}
 use Rattle.tg_types.specs.Types.{types}
 use Rattle.tg_shared_types.specs.Growth.{PlantsAll}
 use Rattle.tg_typing.proofs.Scoped.{below_more}

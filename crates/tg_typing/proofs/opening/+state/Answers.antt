@@ -1,8 +1,6 @@
-use Rattle.std.proofs.Common.{◌≡◌, ◌≤◌, [], suc, length, sym, subst, ap, ◌∙◌, arith}
+use Rattle.std.proofs.Common.{◌≤◌, [], sym, subst, ap, ◌∙◌, arith}
 use Rattle.std.specs.Prelude.{IfOk}
 use Rattle.tg_types.specs.Types.{ty, types, ty-Nat, ty-Bool, ty-Param, ty-App}
-use Rattle.tg_model.specs.Types as model
-use Rattle.tg_shared_types.specs.Growth.{IsDeclared}
 use Rattle.tg_shared_types.proofs.Sizes.{size, sizes, size_at}
 use Rattle.tg_shared_types.proofs.GrowthLaws.{declared_at}
 use Rattle.tg_typing.specs.Nodes.{Stands, AllStand}

@@ -1,4 +1,4 @@
-use Rattle.std.proofs.Common.{ℕ, ◌≡◌, ◌+◌, suc, [], sym, subst, arith}
+use Rattle.std.proofs.Common.{sym, subst}
 use Rattle.tg_typing.specs.Nodes.{AreOpened}
 use Rattle.tg_typing.proofs.Opened.{none_opened, opened_on}
 use Rattle.tg_typing.proofs.opening.open_nodes.Goals as goal

@@ -1,4 +1,4 @@
-use Rattle.std.proofs.Common.{◌≡◌, List, [], length, sym, subst}
+use Rattle.std.proofs.Common.{[], length, sym, subst}
 use Rattle.tg_types.specs.Types.{types}
 use Rattle.tg_shared_types.specs.Growth.{PlantsAll}
 use Rattle.tg_shared_types.proofs.GrowthLaws.{plants_none, plants_next, below_grown, declared_at}

@@ -1,4 +1,4 @@
-use Rattle.std.proofs.Common.{sym, ap, subst}
+use Rattle.std.proofs.Common.{sym, subst}
 use Rattle.std.specs.Prelude.{IfOk}
 use Rattle.tg_typing.specs.Nodes.{Stands}
 use Rattle.tg_typing.specs.Operators.{kind_type}

@@ -1,7 +1,6 @@
-use Rattle.std.proofs.Common.{ℕ, ◌≡◌, ◌+◌, ◌<◌, ◌≤◌, Bool as Truth, true, false, List, [], ◌∷◌, ◌++◌, length, reverse, take, drop, get_or, suc, Some, refl, sym, ◌∙◌, ap, subst, arith}
-use Rattle.std.specs.Prelude.{IfOk, map, slice_get}
+use Rattle.std.proofs.Common.{◌≡◌, ◌+◌, ◌<◌, ◌≤◌, true, false, [], ◌∷◌, ◌++◌, length, reverse, take, get_or, suc, Some, refl, sym, ◌∙◌, ap, subst, arith}
+use Rattle.std.specs.Prelude.{map, slice_get}
 use Rattle.tg_model.specs.Theory.{numbered}
-use Rattle.tg_model.specs.Types.{nat, bool}
 use Rattle.tg_model.specs.TermTyping.{Typing, Typings, ArmTypings}
 use Rattle.tg_shared_types.specs.declared.nodes.Node.TheVariants.{Open, Nat, Bool}
 use Rattle.tg_shared_types.specs.Nodes.{AreBelow, Fits}
@@ -14,9 +13,9 @@ use Rattle.tg_typing.specs.Contexts.{theory_in, self_in}
 use Rattle.tg_typing.specs.Growing.{IsImpossible, Outcome}
 use Rattle.tg_typing.specs.Scopes.{HasTyping, HaveTypings, HaveBranchTypings}
 use Rattle.tg_typing.specs.Uses.{Frames}
-use Rattle.tg_typing.specs.Frames.{use_term, IsUseOf}
+use Rattle.tg_typing.specs.Frames.{IsUseOf}
 use Rattle.tg_typing.specs.Cases.{OpensCase, CaseNodes, BindsBranch}
-use Rattle.tg_typing.specs.Walks.{scope_in, TypesTerm, TypesBranches}
+use Rattle.tg_typing.specs.Walks.{scope_in, TypesTerm}
 use Rattle.std.proofs.lemmas.List.{reverse-append}
 use Rattle.tg_typing.proofs.CaseArm.{below_both, below_reverse}
 use Rattle.tg_typing.proofs.FrameLaws.{if_ok}

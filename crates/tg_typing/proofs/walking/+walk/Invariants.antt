@@ -1,4 +1,4 @@
-use Rattle.std.proofs.Common.{ℕ, ◌≡◌, ◌+◌, ◌*◌, ◌≤◌, length}
+use Rattle.std.proofs.Common.{◌≡◌, ◌+◌, ◌*◌, ◌≤◌, length}
 use Rattle.tg_typing.specs.View.{resolved, all_resolved, branches}
 use Rattle.tg_typing.proofs.ResolvedSizes.{size, sizes, branch_sizes}
 use Rattle.tg_typing.proofs.WalkLaws.{ArgumentsLead, BranchesLead}
