@@ -8,6 +8,10 @@ use Rattle.tg_shared_types.specs.declared.nodes.Node.{Node}
 use Rattle.tg_shared_types.specs.declared.nodes.Node.TheVariants.{Open}
 use Rattle.tg_shared_types.specs.Nodes.{AreBelow, IsNodeTable}
 use Rattle.tg_accept.specs.Resolved as model
+use Rattle.tg_typing.specs.declared.resolved.Resolved.{Resolved}
+use Rattle.tg_typing.specs.declared.resolved.Resolved.TheVariants.{Case, Let}
+use Rattle.tg_typing.specs.declared.resolved.Branch.{Branch}
+use Rattle.tg_typing.specs.View.{resolved, branches, resolved-Case, resolved-Let}
 use Rattle.tg_typing.specs.declared.contexts.Context.{Context}
 use Rattle.tg_typing.specs.Contexts.{theory_in, self_in}
 use Rattle.tg_typing.specs.Growing.{IsImpossible, Outcome}
@@ -86,3 +90,10 @@ module _ (x : Context) (locs : List ℕ) (old mid : List Node) (node e : ℕ) (t
       (subst (λ ns. Outcome ns late Typing (HasTyping (theory_in x) (self_in x) (scope_in x locs) t1 node) true) opened first))
       (subst (λ s. Outcome late new Typing (HasTyping (theory_in x) (self_in x) s body e) ok)
       (inner_scope x locs locs' (node ∷ []) longer ∙ ap (λ k. with_locs (scope_in x locs) (k ∷ reverse locs)) place) second))
+
+pub case_is : (t : Resolved) (n : ℕ) (u : Resolved) (bs : List Branch) (v : Resolved) → t ≡ Case n u bs → v ≡ u →
+    resolved t ≡ model.case n (resolved v) (branches bs)
+case_is t n u bs v e f = ap resolved e ∙ resolved-Case n u bs ∙ ap (λ y. model.case n (resolved y) (branches bs)) (sym f)
+
+pub let_is : (t u body v : Resolved) → t ≡ Let u body → v ≡ u → resolved t ≡ model.bind (resolved v) (resolved body)
+let_is t u body v e f = ap resolved e ∙ resolved-Let u body ∙ ap (λ y. model.bind (resolved y) (resolved body)) (sym f)

@@ -7,23 +7,22 @@ use Rattle.tg_shared_types.specs.Nodes.{AreBelow, Fits}
 use Rattle.tg_shared_types.specs.Growth.{Grows}
 use Rattle.tg_shared_types.proofs.NodeLaws.{pushed_length}
 use Rattle.tg_shared_types.proofs.GrowthLaws.{grows_pushed, pushed_says}
-use Rattle.tg_accept.specs.Resolved as model
-use Rattle.tg_typing.specs.View.{head, resolved, all_resolved, branches, resolved-Bound, resolved-Free, resolved-Lit, resolved-Truth, resolved-Case, resolved-Let}
+use Rattle.tg_typing.specs.View.{head, resolved, all_resolved, branches, resolved-Bound, resolved-Free, resolved-Lit, resolved-Truth}
 use Rattle.tg_typing.specs.Contexts.{theory_in, self_in}
 use Rattle.tg_typing.specs.Growing.{IsImpossible, Outcome}
 use Rattle.tg_typing.specs.Scopes.{HasTyping, HaveTypings, HaveBranchTypings}
 use Rattle.tg_typing.specs.Uses.{Frames}
 use Rattle.tg_typing.specs.Frames.{IsUseOf}
-use Rattle.tg_typing.specs.Cases.{OpensCase, CaseNodes, BindsBranch}
+use Rattle.tg_typing.specs.Cases.{OpensCase, BindsBranch}
 use Rattle.tg_typing.specs.Walks.{scope_in, TypesTerm}
 use Rattle.std.proofs.lemmas.List.{reverse-append}
 use Rattle.tg_typing.proofs.CaseArm.{below_both, below_reverse}
 use Rattle.tg_typing.proofs.FrameLaws.{if_ok}
 use Rattle.tg_typing.proofs.Leaves.{get_below, bound_typed, bound_untyped, free_typed, free_untyped, literal_typed, truth_typed}
 use Rattle.tg_typing.proofs.Scoped.{below_more}
-use Rattle.tg_typing.proofs.ResolvedSizes.{size, sizes, branch_sizes, size_at, body_at}
+use Rattle.tg_typing.proofs.ResolvedSizes.{size, branch_sizes, size_at, body_at}
 use Rattle.tg_typing.proofs.WalkLaws.{longer_when, when_true, when_false, arguments_next, arguments_stop, arguments_start, arguments_end, other_arguments, ArgumentsLead, BranchesLead, used_typed, unused, no_frame, below_at, branches_next, branches_stop, branches_fail, branches_end}
-use Rattle.tg_typing.proofs.WalkForms.{on_true, always, then_true, scope_on, numbered_below, read_at, take_back, case_fails, case_done, let_fails, let_done}
+use Rattle.tg_typing.proofs.WalkForms.{on_true, always, then_true, scope_on, case_is, let_is, numbered_below, read_at, take_back, case_fails, case_done, let_fails, let_done}
 use Rattle.tg_typing.proofs.walking.+walk.Goals as goal
 
 pub type_at-unite-requires-clause-left : goal.type_at-unite-requires-clause-left
@@ -40,11 +39,8 @@ type_at-unite-requires-in-Some-free-clause-left t c =
 
 pub type_at-type_at-requires : goal.type_at-type_at-requires
 type_at-type_at-requires t c =
-    let nodes : CaseNodes (theory_in c.args.context.now) c.in-Case.n c.args.table.now c.open_case.new.table c.in-Some-2.us c.in-Some-2.whole =
-    subst (OpensCase (theory_in c.args.context.now) c.in-Case.n c.args.table.now c.open_case.new.table) c.in-Some-2.is c.in_ok-us-in-Case.ensures in
-    let is : resolved c.args.t.now ≡ model.case c.in-Case.n (resolved c.get.result.now) (branches c.in-Case.bs) =
-    ap resolved c.in-Case.is ∙ resolved-Case c.in-Case.n c.in-Case.t c.in-Case.bs
-    ∙ ap (λ y. model.case c.in-Case.n (resolved y) (branches c.in-Case.bs)) (sym c.get.ensures) in
+    let nodes = subst (OpensCase (theory_in c.args.context.now) c.in-Case.n c.args.table.now c.open_case.new.table) c.in-Some-2.is c.in_ok-us-in-Case.ensures in
+    let is = case_is c.args.t.now c.in-Case.n c.in-Case.t c.in-Case.bs c.get.result.now c.in-Case.is c.get.ensures in
     let s : size (resolved c.args.t.now) ≡ suc (size (resolved c.get.result.now) + branch_sizes (branches c.in-Case.bs)) = ap size is in (
       omega (arith, c.decreases, s),
       (c.requires.closed, (scope_on c.args.context.now c.args.locs.now.items c.args.locs.now.items (length c.args.table.now) (length c.open_case.new.table) nodes.grown.longer refl c.requires.scope, nodes.inside)),
@@ -52,11 +48,8 @@ type_at-type_at-requires t c =
 
 pub type_at-returns-then-not-branch : goal.type_at-returns-then-not-branch
 type_at-returns-then-not-branch t c =
-    let nodes : CaseNodes (theory_in c.args.context.now) c.in-Case.n c.args.table.now c.open_case.new.table c.in-Some-2.us c.in-Some-2.whole =
-    subst (OpensCase (theory_in c.args.context.now) c.in-Case.n c.args.table.now c.open_case.new.table) c.in-Some-2.is c.in_ok-us-in-Case.ensures in
-    let is : resolved c.args.t.now ≡ model.case c.in-Case.n (resolved c.get.result.now) (branches c.in-Case.bs) =
-    ap resolved c.in-Case.is ∙ resolved-Case c.in-Case.n c.in-Case.t c.in-Case.bs
-    ∙ ap (λ y. model.case c.in-Case.n (resolved y) (branches c.in-Case.bs)) (sym c.get.ensures) in (
+    let nodes = subst (OpensCase (theory_in c.args.context.now) c.in-Case.n c.args.table.now c.open_case.new.table) c.in-Some-2.is c.in_ok-us-in-Case.ensures in
+    let is = case_is c.args.t.now c.in-Case.n c.in-Case.t c.in-Case.bs c.get.result.now c.in-Case.is c.get.ensures in (
       case_fails c.args.context.now c.args.locs.now.items c.args.table.now c.open_case.new.table c.in-Case.n c.in-Some-2.us c.in-Some-2.whole c.args.expected (resolved c.args.t.now) (resolved c.get.result.now)
           (branches c.in-Case.bs) is nodes c.requires.scope c.requires.expected
           (when_false c.args.context.now c.open_case.new.table c.type_at.new.table c.args.locs.now.items c.type_at.new.locs.items (resolved c.get.result.now) c.in-Some-2.whole c.in_ok-type_at-in-Case.field-0 c.if-not-branch.true c.in_ok-type_at-in-Case.ensures),
@@ -65,14 +58,10 @@ type_at-returns-then-not-branch t c =
 
 pub type_at-type_branches-requires : goal.type_at-type_branches-requires
 type_at-type_branches-requires t c =
-    let nodes : CaseNodes (theory_in c.args.context.now) c.in-Case.n c.args.table.now c.open_case.new.table c.in-Some-2.us c.in-Some-2.whole =
-    subst (OpensCase (theory_in c.args.context.now) c.in-Case.n c.args.table.now c.open_case.new.table) c.in-Some-2.is c.in_ok-us-in-Case.ensures in
-    let is : resolved c.args.t.now ≡ model.case c.in-Case.n (resolved c.get.result.now) (branches c.in-Case.bs) =
-    ap resolved c.in-Case.is ∙ resolved-Case c.in-Case.n c.in-Case.t c.in-Case.bs
-    ∙ ap (λ y. model.case c.in-Case.n (resolved y) (branches c.in-Case.bs)) (sym c.get.ensures) in
+    let nodes = subst (OpensCase (theory_in c.args.context.now) c.in-Case.n c.args.table.now c.open_case.new.table) c.in-Some-2.is c.in_ok-us-in-Case.ensures in
+    let is = case_is c.args.t.now c.in-Case.n c.in-Case.t c.in-Case.bs c.get.result.now c.in-Case.is c.get.ensures in
     let s : size (resolved c.args.t.now) ≡ suc (size (resolved c.get.result.now) + branch_sizes (branches c.in-Case.bs)) = ap size is in
-    let late : length c.open_case.new.table ≤ length c.type_at.new.table =
-    longer_when c.args.context.now c.open_case.new.table c.type_at.new.table c.args.locs.now.items c.type_at.new.locs.items (resolved c.get.result.now) c.in-Some-2.whole c.in_ok-type_at-in-Case.field-0 c.if-not-branch.false c.in_ok-type_at-in-Case.ensures in
+    let late = longer_when c.args.context.now c.open_case.new.table c.type_at.new.table c.args.locs.now.items c.type_at.new.locs.items (resolved c.get.result.now) c.in-Some-2.whole c.in_ok-type_at-in-Case.field-0 c.if-not-branch.false c.in_ok-type_at-in-Case.ensures in
     let b : branch_sizes (branches c.as_slice-in-Case-2.result.now) ≡ branch_sizes (branches c.in-Case.bs) =
     ap (λ y. branch_sizes (branches y)) c.as_slice-in-Case-2.ensures in
     let l = nodes.grown.longer in (
@@ -93,8 +82,7 @@ type_at-type_branches-requires t c =
 
 pub type_at-type_at-requires-in-Let : goal.type_at-type_at-requires-in-Let
 type_at-type_at-requires-in-Let t c =
-    let is : resolved c.args.t.now ≡ model.bind (resolved c.get-in-Let.result.now) (resolved c.in-Let.body) =
-    ap resolved c.in-Let.is ∙ resolved-Let c.in-Let.t c.in-Let.body ∙ ap (λ y. model.bind (resolved y) (resolved c.in-Let.body)) (sym c.get-in-Let.ensures) in
+    let is = let_is c.args.t.now c.in-Let.t c.in-Let.body c.get-in-Let.result.now c.in-Let.is c.get-in-Let.ensures in
     let s : size (resolved c.args.t.now) ≡ suc (size (resolved c.get-in-Let.result.now) + size (resolved c.in-Let.body)) = ap size is in
     let l : length c.push-in-Let.new.self ≡ suc (length c.args.table.now) = ap length c.in_ok-node-in-Let.ensures.ok ∙ pushed_length c.args.table.now Open in (
       omega (arith, c.decreases, s),
@@ -109,8 +97,7 @@ type_at-type_at-requires-in-Let t c =
 
 pub type_at-returns-then-not-branch-2 : goal.type_at-returns-then-not-branch-2
 type_at-returns-then-not-branch-2 t c =
-    let is : resolved c.args.t.now ≡ model.bind (resolved c.get-in-Let.result.now) (resolved c.in-Let.body) =
-    ap resolved c.in-Let.is ∙ resolved-Let c.in-Let.t c.in-Let.body ∙ ap (λ y. model.bind (resolved y) (resolved c.in-Let.body)) (sym c.get-in-Let.ensures) in (
+    let is = let_is c.args.t.now c.in-Let.t c.in-Let.body c.get-in-Let.result.now c.in-Let.is c.get-in-Let.ensures in (
       let_fails c.args.context.now c.args.locs.now.items c.args.table.now c.push-in-Let.new.self c.in_ok-node-in-Let.node c.args.expected (resolved c.args.t.now) (resolved c.get-in-Let.result.now)
           (resolved c.in-Let.body) is c.in_ok-node-in-Let.ensures.table c.in_ok-node-in-Let.ensures.ok c.in_ok-node-in-Let.ensures.place c.requires.scope
           c.requires.expected
@@ -120,14 +107,11 @@ type_at-returns-then-not-branch-2 t c =
 
 pub type_at-type_at-requires-in-Let-2 : goal.type_at-type_at-requires-in-Let-2
 type_at-type_at-requires-in-Let-2 t c =
-    let is : resolved c.args.t.now ≡ model.bind (resolved c.get-in-Let.result.now) (resolved c.in-Let.body) =
-    ap resolved c.in-Let.is ∙ resolved-Let c.in-Let.t c.in-Let.body ∙ ap (λ y. model.bind (resolved y) (resolved c.in-Let.body)) (sym c.get-in-Let.ensures) in
+    let is = let_is c.args.t.now c.in-Let.t c.in-Let.body c.get-in-Let.result.now c.in-Let.is c.get-in-Let.ensures in
     let s : size (resolved c.args.t.now) ≡ suc (size (resolved c.get-in-Let.result.now) + size (resolved c.in-Let.body)) = ap size is in
     let l : length c.push-in-Let.new.self ≡ suc (length c.args.table.now) = ap length c.in_ok-node-in-Let.ensures.ok ∙ pushed_length c.args.table.now Open in
-    let late : length c.push-in-Let.new.self ≤ length c.type_at-in-Let.new.table =
-    longer_when c.args.context.now c.push-in-Let.new.self c.type_at-in-Let.new.table c.args.locs.now.items c.type_at-in-Let.new.locs.items (resolved c.get-in-Let.result.now) c.in_ok-node-in-Let.node c.in_ok-type_at-in-Let.field-0 c.if-not-branch-2.false c.in_ok-type_at-in-Let.ensures in
-    let same : c.type_at-in-Let.new.locs.items ≡ c.args.locs.now.items =
-    on_true c.in_ok-type_at-in-Let.field-0 c.if-not-branch-2.false c.in_ok-type_at-in-Let.ensures.1 in
+    let late = longer_when c.args.context.now c.push-in-Let.new.self c.type_at-in-Let.new.table c.args.locs.now.items c.type_at-in-Let.new.locs.items (resolved c.get-in-Let.result.now) c.in_ok-node-in-Let.node c.in_ok-type_at-in-Let.field-0 c.if-not-branch-2.false c.in_ok-type_at-in-Let.ensures in
+    let same = on_true c.in_ok-type_at-in-Let.field-0 c.if-not-branch-2.false c.in_ok-type_at-in-Let.ensures.1 in
     let pushed : c.push-in-Let-2.new.self.items ≡ c.args.locs.now.items ++ c.in_ok-node-in-Let.node ∷ [] =
     c.in_ok-push-in-Let.ensures.items ∙ ap (λ ls. ls ++ c.in_ok-node-in-Let.node ∷ []) same in
     let b : size (resolved c.get-in-Let-2.result.now) ≡ size (resolved c.in-Let.body) = ap (λ y. size (resolved y)) c.get-in-Let-2.ensures in
@@ -209,13 +193,9 @@ type_at-returns-in_ok-node-in-Truth t c =
 
 pub type_at-returns-else-not-branch : goal.type_at-returns-else-not-branch
 type_at-returns-else-not-branch t c =
-    let nodes : CaseNodes (theory_in c.args.context.now) c.in-Case.n c.args.table.now c.open_case.new.table c.in-Some-2.us c.in-Some-2.whole =
-    subst (OpensCase (theory_in c.args.context.now) c.in-Case.n c.args.table.now c.open_case.new.table) c.in-Some-2.is c.in_ok-us-in-Case.ensures in
-    let is : resolved c.args.t.now ≡ model.case c.in-Case.n (resolved c.get.result.now) (branches c.in-Case.bs) =
-    ap resolved c.in-Case.is ∙ resolved-Case c.in-Case.n c.in-Case.t c.in-Case.bs
-    ∙ ap (λ y. model.case c.in-Case.n (resolved y) (branches c.in-Case.bs)) (sym c.get.ensures) in
-    let same : c.type_at.new.locs.items ≡ c.args.locs.now.items =
-    on_true c.in_ok-type_at-in-Case.field-0 c.if-not-branch.false c.in_ok-type_at-in-Case.ensures.1 in
+    let nodes = subst (OpensCase (theory_in c.args.context.now) c.in-Case.n c.args.table.now c.open_case.new.table) c.in-Some-2.is c.in_ok-us-in-Case.ensures in
+    let is = case_is c.args.t.now c.in-Case.n c.in-Case.t c.in-Case.bs c.get.result.now c.in-Case.is c.get.ensures in
+    let same = on_true c.in_ok-type_at-in-Case.field-0 c.if-not-branch.false c.in_ok-type_at-in-Case.ensures.1 in
     if_ok c.type_branches.result (λ ok w. (
       case_done c.args.context.now c.args.locs.now.items c.args.table.now c.open_case.new.table c.in-Case.n c.in-Some-2.us c.in-Some-2.whole c.args.expected (resolved c.args.t.now) (resolved c.get.result.now)
           (branches c.in-Case.bs) is nodes c.requires.scope c.requires.expected c.type_at.new.table c.type_branches.new.table ok
@@ -232,12 +212,9 @@ type_at-returns-else-not-branch t c =
 
 pub type_at-returns-in_ok-ok-in-Let : goal.type_at-returns-in_ok-ok-in-Let
 type_at-returns-in_ok-ok-in-Let t c =
-    let is : resolved c.args.t.now ≡ model.bind (resolved c.get-in-Let.result.now) (resolved c.in-Let.body) =
-    ap resolved c.in-Let.is ∙ resolved-Let c.in-Let.t c.in-Let.body ∙ ap (λ y. model.bind (resolved y) (resolved c.in-Let.body)) (sym c.get-in-Let.ensures) in
-    let late : length c.push-in-Let.new.self ≤ length c.type_at-in-Let.new.table =
-    longer_when c.args.context.now c.push-in-Let.new.self c.type_at-in-Let.new.table c.args.locs.now.items c.type_at-in-Let.new.locs.items (resolved c.get-in-Let.result.now) c.in_ok-node-in-Let.node c.in_ok-type_at-in-Let.field-0 c.if-not-branch-2.false c.in_ok-type_at-in-Let.ensures in
-    let same : c.type_at-in-Let.new.locs.items ≡ c.args.locs.now.items =
-    on_true c.in_ok-type_at-in-Let.field-0 c.if-not-branch-2.false c.in_ok-type_at-in-Let.ensures.1 in
+    let is = let_is c.args.t.now c.in-Let.t c.in-Let.body c.get-in-Let.result.now c.in-Let.is c.get-in-Let.ensures in
+    let late = longer_when c.args.context.now c.push-in-Let.new.self c.type_at-in-Let.new.table c.args.locs.now.items c.type_at-in-Let.new.locs.items (resolved c.get-in-Let.result.now) c.in_ok-node-in-Let.node c.in_ok-type_at-in-Let.field-0 c.if-not-branch-2.false c.in_ok-type_at-in-Let.ensures in
+    let same = on_true c.in_ok-type_at-in-Let.field-0 c.if-not-branch-2.false c.in_ok-type_at-in-Let.ensures.1 in
     let pushed : c.push-in-Let-2.new.self.items ≡ c.args.locs.now.items ++ c.in_ok-node-in-Let.node ∷ [] =
     c.in_ok-push-in-Let.ensures.items ∙ ap (λ ls. ls ++ c.in_ok-node-in-Let.node ∷ []) same in (
       let_done c.args.context.now c.args.locs.now.items c.args.table.now c.push-in-Let.new.self c.in_ok-node-in-Let.node c.args.expected (resolved c.args.t.now) (resolved c.get-in-Let.result.now)
@@ -272,8 +249,7 @@ type_branches-type_at-requires t c =
     c.bind_branch.new.locs.items c.in_ok-bind_branch.field-0) c.loop-b.invariant.locs c.in_ok-bind_branch.ensures in
     let yes = subst (BindsBranch (theory_in c.args.context.now) c.loop-b.table c.bind_branch.new.table c.args.n c.args.us.now (head c.b-item.result.head) c.b-item.result.names c.args.locs.now.items
     c.bind_branch.new.locs.items) c.if-not-branch.false binds in
-    let s : size (resolved c.b-item.result.body) ≤ branch_sizes (branches c.args.bs.now) =
-    body_at c.args.bs.now c.loop-b.b-index c.b-item.result c.loop-b-test.true c.b-item.is in
+    let s = body_at c.args.bs.now c.loop-b.b-index c.b-item.result c.loop-b-test.true c.b-item.is in
     let a = c.loop-b.invariant.longer in
     let b = yes.1.grows.longer in
     let outer = scope_on c.args.context.now c.args.locs.now.items c.args.locs.now.items (length c.args.table.now) (length c.bind_branch.new.table) (omega (arith, a, b)) refl c.requires.scope in (
@@ -311,8 +287,7 @@ type_branches-loop-b-preserved t c =
     c.bind_branch.new.locs.items) c.if-not-branch.false binds in
     let a = c.loop-b.invariant.longer in
     let b = yes.1.grows.longer in
-    let late : length c.bind_branch.new.table ≤ length c.type_at.new.table =
-    longer_when c.args.context.now c.bind_branch.new.table c.type_at.new.table c.bind_branch.new.locs.items c.type_at.new.locs.items (resolved c.b-item.result.body) c.args.expected c.in_ok-type_at.field-0 c.if-not-branch-2.false c.in_ok-type_at.ensures in
+    let late = longer_when c.args.context.now c.bind_branch.new.table c.type_at.new.table c.bind_branch.new.locs.items c.type_at.new.locs.items (resolved c.b-item.result.body) c.args.expected c.in_ok-type_at.field-0 c.if-not-branch-2.false c.in_ok-type_at.ensures in
     record {
       longer = omega (arith, a, b, late);
       locs =
@@ -356,14 +331,11 @@ pub type_use-type_at-requires : goal.type_use-type_at-requires
 type_use-type_at-requires t c =
     let frame = subst (Frames c.args.table.now c.frame.new.table (λ ρ. IsUseOf (theory_in c.args.context.now) (self_in c.args.context.now) (map ρ c.args.context.now.parameters) c.args.used) c.args.expected) c.in-Some.is c.in_ok-es.ensures in
     let nodes : c.as_slice-nodes.result.now ≡ c.in-Some.es = c.as_slice-nodes.ensures in
-    let inside : AreBelow (length c.frame.new.table) c.as_slice-nodes.result.now =
-    subst (AreBelow (length c.frame.new.table)) (sym nodes) frame.inside in
+    let inside = subst (AreBelow (length c.frame.new.table)) (sym nodes) frame.inside in
     let first : length c.args.table.now ≤ length c.frame.new.table = frame.grown.longer in
     let count : length c.as_slice-nodes.result.now ≡ length c.args.ts.now = c.if-nodes-ts.false in
-    let at : (get_or c.as_slice-nodes.result.now c.loop-at.at 0) ≡ get_or c.as_slice-nodes.result.now c.loop-at.at (get_or c.as_slice-nodes.result.now c.loop-at.at 0) =
-    read_at c.as_slice-nodes.result.now c.loop-at.at (let a = c.loop-at-test.true in omega (arith, a, count)) in
-    let s : size (resolved c.index-ts-at.result) ≤ sizes (all_resolved c.args.ts.now) =
-    size_at c.args.ts.now c.loop-at.at c.index-ts-at.result c.loop-at-test.true c.index-ts-at.is in
+    let at = read_at c.as_slice-nodes.result.now c.loop-at.at (let a = c.loop-at-test.true in omega (arith, a, count)) in
+    let s = size_at c.args.ts.now c.loop-at.at c.index-ts-at.result c.loop-at-test.true c.index-ts-at.is in
     let a = c.loop-at.invariant.longer in
     let i = c.loop-at-test.true in (
       omega (arith, c.decreases, s),
@@ -380,14 +352,11 @@ pub type_use-returns-then-not-branch : goal.type_use-returns-then-not-branch
 type_use-returns-then-not-branch t c =
     let frame = subst (Frames c.args.table.now c.frame.new.table (λ ρ. IsUseOf (theory_in c.args.context.now) (self_in c.args.context.now) (map ρ c.args.context.now.parameters) c.args.used) c.args.expected) c.in-Some.is c.in_ok-es.ensures in
     let nodes : c.as_slice-nodes.result.now ≡ c.in-Some.es = c.as_slice-nodes.ensures in
-    let inside : AreBelow (length c.frame.new.table) c.as_slice-nodes.result.now =
-    subst (AreBelow (length c.frame.new.table)) (sym nodes) frame.inside in
+    let inside = subst (AreBelow (length c.frame.new.table)) (sym nodes) frame.inside in
     let first : length c.args.table.now ≤ length c.frame.new.table = frame.grown.longer in
     let count : length c.as_slice-nodes.result.now ≡ length c.args.ts.now = c.if-nodes-ts.false in
-    let at : (get_or c.as_slice-nodes.result.now c.loop-at.at 0) ≡ get_or c.as_slice-nodes.result.now c.loop-at.at (get_or c.as_slice-nodes.result.now c.loop-at.at 0) =
-    read_at c.as_slice-nodes.result.now c.loop-at.at (let a = c.loop-at-test.true in omega (arith, a, count)) in
-    let typed : TypesTerm c.args.context.now c.loop-at.table c.type_at.new.table c.args.locs.now.items c.type_at.new.locs.items (resolved c.index-ts-at.result) (get_or c.as_slice-nodes.result.now c.loop-at.at 0) c.in_ok-type_at.field-0 =
-    subst (λ l. TypesTerm c.args.context.now c.loop-at.table c.type_at.new.table l c.type_at.new.locs.items (resolved c.index-ts-at.result) (get_or c.as_slice-nodes.result.now c.loop-at.at 0) c.in_ok-type_at.field-0)
+    let at = read_at c.as_slice-nodes.result.now c.loop-at.at (let a = c.loop-at-test.true in omega (arith, a, count)) in
+    let typed = subst (λ l. TypesTerm c.args.context.now c.loop-at.table c.type_at.new.table l c.type_at.new.locs.items (resolved c.index-ts-at.result) (get_or c.as_slice-nodes.result.now c.loop-at.at 0) c.in_ok-type_at.field-0)
     c.loop-at.invariant.locs c.in_ok-type_at.ensures in (
       used_typed c.args.context.now c.args.locs.now.items c.args.table.now c.frame.new.table [] c.args.ts.now c.in-Some.es c.args.used c.args.expected false c.requires.scope frame
           (subst (λ es. IsImpossible c.frame.new.table Typings (HaveTypings (theory_in c.args.context.now) (self_in c.args.context.now) (scope_in c.args.context.now c.args.locs.now.items) (all_resolved c.args.ts.now) es)) nodes
@@ -399,14 +368,11 @@ pub type_use-loop-at-preserved : goal.type_use-loop-at-preserved
 type_use-loop-at-preserved t c =
     let frame = subst (Frames c.args.table.now c.frame.new.table (λ ρ. IsUseOf (theory_in c.args.context.now) (self_in c.args.context.now) (map ρ c.args.context.now.parameters) c.args.used) c.args.expected) c.in-Some.is c.in_ok-es.ensures in
     let nodes : c.as_slice-nodes.result.now ≡ c.in-Some.es = c.as_slice-nodes.ensures in
-    let inside : AreBelow (length c.frame.new.table) c.as_slice-nodes.result.now =
-    subst (AreBelow (length c.frame.new.table)) (sym nodes) frame.inside in
+    let inside = subst (AreBelow (length c.frame.new.table)) (sym nodes) frame.inside in
     let first : length c.args.table.now ≤ length c.frame.new.table = frame.grown.longer in
     let count : length c.as_slice-nodes.result.now ≡ length c.args.ts.now = c.if-nodes-ts.false in
-    let at : (get_or c.as_slice-nodes.result.now c.loop-at.at 0) ≡ get_or c.as_slice-nodes.result.now c.loop-at.at (get_or c.as_slice-nodes.result.now c.loop-at.at 0) =
-    read_at c.as_slice-nodes.result.now c.loop-at.at (let a = c.loop-at-test.true in omega (arith, a, count)) in
-    let typed : TypesTerm c.args.context.now c.loop-at.table c.type_at.new.table c.args.locs.now.items c.type_at.new.locs.items (resolved c.index-ts-at.result) (get_or c.as_slice-nodes.result.now c.loop-at.at 0) c.in_ok-type_at.field-0 =
-    subst (λ l. TypesTerm c.args.context.now c.loop-at.table c.type_at.new.table l c.type_at.new.locs.items (resolved c.index-ts-at.result) (get_or c.as_slice-nodes.result.now c.loop-at.at 0) c.in_ok-type_at.field-0)
+    let at = read_at c.as_slice-nodes.result.now c.loop-at.at (let a = c.loop-at-test.true in omega (arith, a, count)) in
+    let typed = subst (λ l. TypesTerm c.args.context.now c.loop-at.table c.type_at.new.table l c.type_at.new.locs.items (resolved c.index-ts-at.result) (get_or c.as_slice-nodes.result.now c.loop-at.at 0) c.in_ok-type_at.field-0)
     c.loop-at.invariant.locs c.in_ok-type_at.ensures in
     let a = c.loop-at.invariant.longer in
     let late : length c.loop-at.table ≤ length c.type_at.new.table = longer_when c.args.context.now c.loop-at.table c.type_at.new.table c.args.locs.now.items c.type_at.new.locs.items (resolved c.index-ts-at.result) (get_or c.as_slice-nodes.result.now c.loop-at.at 0) c.in_ok-type_at.field-0 c.if-not-branch.false typed in
