@@ -180,26 +180,23 @@ given_parameter ns given (suc n) b z h =
     })
 
 -- lists of types, one longer
-snoc : model.Tys → model.Ty → model.Tys
+abbrev pub snoc : model.Tys → model.Ty → model.Tys
 snoc model.none t = model.more t model.none
 snoc (model.more u ts) t = model.more u (snoc ts t)
 
-types_of_end : (ρ : Assignment) (ks : List ℕ) (k : ℕ) → types_of ρ (ks ++ k ∷ []) ≡ snoc (types_of ρ ks) (ρ k)
-unfolding snoc
+pub types_of_end : (ρ : Assignment) (ks : List ℕ) (k : ℕ) → types_of ρ (ks ++ k ∷ []) ≡ snoc (types_of ρ ks) (ρ k)
 types_of_end ρ [] k = refl
 types_of_end ρ (l ∷ ks) k = ap (model.more (ρ l)) (types_of_end ρ ks k)
 
 instances_end : (us : List model.Ty) (ts : model.Tys) (t : model.Ty) → instances us (snoc ts t) ≡ snoc (instances us ts) (instance us t)
-unfolding snoc
 instances_end us model.none t = refl
 instances_end us (model.more u ts) t = ap (model.more (instance us u)) (instances_end us ts t)
 
-types_end : (ts : List declared.Ty) (t : declared.Ty) → types (ts ++ t ∷ []) ≡ snoc (types ts) (ty t)
-unfolding snoc
+pub types_end : (ts : List declared.Ty) (t : declared.Ty) → types (ts ++ t ∷ []) ≡ snoc (types ts) (ty t)
 types_end [] t = refl
 types_end (u ∷ ts) t = ap (model.more (ty u)) (types_end ts t)
 
-below_end : (m n : ℕ) (ks : List ℕ) (k : ℕ) → m ≤ n → AreBelow m ks → k < n → AreBelow n (ks ++ k ∷ [])
+pub below_end : (m n : ℕ) (ks : List ℕ) (k : ℕ) → m ≤ n → AreBelow m ks → k < n → AreBelow n (ks ++ k ∷ [])
 below_end m n [] k h b i = (i, tt)
 below_end m n (l ∷ ks) k h b i = (omega (arith, b.0, h), below_end m n ks k h b.1 i)
 

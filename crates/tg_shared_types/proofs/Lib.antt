@@ -1,9 +1,9 @@
-mod NodeLaws
+pub mod NodeLaws
 mod JoinLaws
 mod UniteLaws
-mod PartLaws
-mod Sizes
+pub mod PartLaws
+pub mod Sizes
 mod MarkLaws
-mod GrowthLaws
+pub mod GrowthLaws
 mod VisitLaws
 mod KnownTables

@@ -2,7 +2,7 @@
 ghost use Rattle.std.specs.Prelude.{◌≡◌, ◌<◌, ◌++◌, [], ◌∷◌, length, IfOk, OnErr};
 ghost use Rattle.tg_types.specs.Types.{ty};
 ghost use Rattle.tg_shared_types.specs.Growth.{IsDeclared, Plants};
-ghost use Rattle.tg_shared_types.specs.Nodes.{node_at, AreBelow, Names, IsRoot, SameFits, HasTypeOf};
+ghost use Rattle.tg_shared_types.specs.Nodes.{node_at, AreBelow, Names, IsNodeTable, IsRoot, SameFits, HasTypeOf};
 ghost use Rattle.tg_shared_types.specs.Uniting.{Unites};
 ghost use Rattle.tg_shared_types.specs.Settled.{Settles};
 
@@ -58,6 +58,7 @@ impl Table {
     /// Adds a node, and gives its place.
     pub fn push(&mut self, node: Node) -> Result<usize, AllocError>
         requires { Names (length self.old) (length self.old) node }
+        ensures table { IsNodeTable self.old }
         ensures place { IfOk result (λ at. at ≡ length self.old) }
         ensures ok { IfOk result (λ at. self.new ≡ self.old ++ node ∷ []) }
         ensures err { OnErr result (self.new ≡ self.old) }

@@ -1,0 +1,16 @@
+pub mod Turns
+pub mod Opened
+pub mod Scoped
+pub mod Leaves
+pub mod UseArms
+pub mod Frames
+pub mod LetArm
+pub mod CaseArm
+pub mod Conclusions
+pub mod Standing
+pub mod FrameLaws
+pub mod ResolvedSizes
+pub mod CaseNodes
+pub mod WalkLaws
+pub mod WalkForms
+pub mod AnswerLaws

@@ -1,0 +1,12 @@
+pub mod Growing
+pub mod Scopes
+pub mod Uses
+pub mod Cases
+pub mod Counts
+pub mod View
+pub mod Nodes
+pub mod Contexts
+pub mod Frames
+pub mod Operators
+pub mod Walks
+pub mod Answers
