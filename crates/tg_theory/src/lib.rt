@@ -7,5 +7,5 @@ mod shapes;
 mod types;
 
 pub use calls::{calls_on_inputs, calls_program};
-pub use shapes::{is_body_shaped, is_datatype_shaped};
+pub use shapes::{is_body_shaped, is_datatype_shaped, is_program_fit};
 pub use types::has_parameter;

@@ -1,17 +1,17 @@
 //! Shapes of declarations: the arguments of a datatype's constructors, and the cases of a primitive
 //! recursive function.
-ghost use Rattle.std.specs.Prelude.{◌≡◌, ◌+◌, true, [], ◌∷◌, IfOk, length, map};
+ghost use Rattle.std.specs.Prelude.{◌≡◌, ◌+◌, true, [], ◌∷◌, ◌&&◌, not, IfOk, length, map};
 ghost use Rattle.std.specs.List.{list_all, list_any};
-ghost use Rattle.tg_accept.specs.Faults.{each_call, is_lower_use, is_argument, is_datatype_shaped, is_body_shaped, are_cases_shaped};
+ghost use Rattle.tg_accept.specs.Faults.{each_call, is_lower_use, is_argument, from_one_to_eight, has_parameter, is_datatype_shaped, is_body_shaped, are_cases_shaped};
 ghost use Rattle.tg_declarations.specs.View.{constructor, datatype, function, body};
 ghost use Rattle.tg_model.specs.Theory as model;
 ghost use Rattle.tg_types.specs.Types.{ty};
 ghost use Rattle.tg_theory.specs.Matched.{are_argued, has_base, recursive, recursive_of};
 
 use crate::calls::{Arguments, OwnCase, item, uses_are_lower};
-use crate::types::{is_argument, is_base};
+use crate::types::{has_parameter, is_argument, is_base};
 use std::alloc::AllocError;
-use tg_declarations::{Body, ConDef, DataDef, Declarations, FunDef};
+use tg_declarations::{Body, ConDef, DataDef, Declarations, FunDef, ProgDef};
 use tg_term::{FunId, Term};
 use tg_types::{DataId, Ty};
 
@@ -50,6 +50,25 @@ fn has_base(d: DataId, cons: &[ConDef]) -> bool
 {
     for con in cons {
         if is_base(d, con.args.as_slice()) {
+            return true;
+        }
+    }
+    false
+}
+
+/// Whether a program has from one to eight inputs and no type parameter in its type.
+pub fn is_program_fit(def: &ProgDef) -> bool
+    ensures { result ≡ (from_one_to_eight (length def.now.inputs) && not (list_any has_parameter (ty def.now.answer ∷ map ty def.now.inputs))) }
+{
+    let count = def.inputs.len();
+    0 < count && count < 9 && !has_parameter(&def.answer) && !some_parameter(def.inputs.as_slice())
+}
+
+fn some_parameter(ts: &[Ty]) -> bool
+    ensures { result ≡ list_any has_parameter (map ty ts.now) }
+{
+    for t in ts {
+        if has_parameter(t) {
             return true;
         }
     }
