@@ -14,3 +14,4 @@ pub mod CaseNodes
 pub mod WalkLaws
 pub mod WalkForms
 pub mod AnswerLaws
+pub mod ClosedTypes

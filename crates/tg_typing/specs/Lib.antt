@@ -10,3 +10,4 @@ pub mod Frames
 pub mod Operators
 pub mod Walks
 pub mod Answers
+pub mod KeptTypes
