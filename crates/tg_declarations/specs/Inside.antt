@@ -1,5 +1,5 @@
 -- What declarations mean, and what is kept to find a constructor by its number.
-use Rattle.std.specs.Prelude.{◌≡◌, List, map, option_map}
+use Rattle.std.specs.Prelude.{◌≡◌, ◌<◌, List, length, map, option_map}
 use Rattle.tg_model.specs.Theory as model
 use Rattle.tg_accept.specs.Declared.{Declared}
 use Rattle.tg_declarations.specs.declared.declarations.Datatype.{Datatype}
@@ -21,3 +21,6 @@ declared s = record {
 pub record AreNumbered (s : Inside) : Type 0 where
   pub owners : s.owners.items ≡ owners_from 1 (datatypes s.datatypes.items)
   pub numbers : map (λ (x : Datatype). x.numbers) s.datatypes.items ≡ all_numbers_from 1 (datatypes s.datatypes.items)
+  -- a number fits 32 bits
+  pub few_datatypes : length s.datatypes.items < 4294967296
+  pub few_functions : length s.functions.items < 4294967296

@@ -81,6 +81,27 @@ impl Declarations {
         Ok(number)
     }
 
+    /// How many datatypes there are.
+    pub fn data_count(&self) -> u32
+        ensures { result ≡ length self.now.datatypes }
+    {
+        self.datatypes.len() as u32
+    }
+
+    /// How many functions there are.
+    pub fn fun_count(&self) -> u32
+        ensures { result ≡ length self.now.functions }
+    {
+        self.functions.len() as u32
+    }
+
+    /// The number that the next datatype would have, below 2^32; else want of memory.
+    pub fn next_datatype(&self) -> Result<DataId, AllocError>
+        ensures { IfOk result (λ number. number ≡ length self.now.datatypes + 1) }
+    {
+        number_after(self.datatypes.len())
+    }
+
     /// The number that the next function would have, below 2^32; else want of memory.
     pub fn next_function(&self) -> Result<FunId, AllocError>
         ensures { IfOk result (λ number. number ≡ length self.now.functions + 1) }

@@ -1,5 +1,5 @@
 //! Where the constructor of a number is declared.
-ghost use Rattle.std.specs.Prelude.{◌≡◌, ◌+◌, ◌++◌, OnOk, OnErr, IfOk};
+ghost use Rattle.std.specs.Prelude.{◌≡◌, ◌<◌, ◌+◌, ◌++◌, OnOk, OnErr, IfOk};
 ghost use Rattle.tg_declarations.specs.Owners.{places_from, numbers_from};
 
 use sqlite_items::Items;
@@ -53,7 +53,8 @@ pub(crate) fn numbers_after(
 
 /// The number that follows `before` numbers from 1, below 2^32; else want of memory.
 pub(crate) fn number_after(before: usize) -> Result<u32, AllocError>
-    ensures { IfOk result (λ number. number ≡ before + 1) }
+    ensures next { IfOk result (λ number. number ≡ before + 1) }
+    ensures fits { IfOk result (λ number. number < 4294967296) }
 {
     let number = before.checked_add(1).ok_or(AllocError)?;
     u32::try_from(number).map_err(|_| AllocError)

@@ -1,11 +1,19 @@
-//! What is asked of declarations beyond their types: the shape of datatypes and of primitive recursive functions,
-//! and where the program is called. So far these rules alone; the builder of theories is still to come.
+//! Theories, accepted by construction: a builder asks of each declaration what is asked beyond its types, and
+//! whoever holds a theory holds an accepted one.
 #![tactic(auto)]
 
+mod adding;
+mod building;
 mod calls;
+mod errors;
+mod names;
 mod shapes;
+mod theories;
 mod types;
 
+pub use building::Builder;
 pub use calls::{calls_on_inputs, calls_program};
+pub use errors::BuildErr;
 pub use shapes::{is_body_shaped, is_datatype_shaped, is_program_fit};
+pub use theories::Theory;
 pub use types::has_parameter;

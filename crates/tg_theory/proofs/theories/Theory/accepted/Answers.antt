@@ -1,0 +1,7 @@
+use Rattle.std.proofs.Common.{◌≡◌, subst, sym, rules}
+use Rattle.tg_model.specs.Accepted.{IsAccepted}
+use Rattle.tg_theory.proofs.WholeLaws.{whole_accepted, whole_written}
+use Rattle.tg_theory.proofs.theories.Theory.accepted.Goals as goal
+
+pub returns-clause-accepted : goal.returns-clause-accepted
+returns-clause-accepted c = subst IsAccepted c.self.view_is (whole_accepted c.self.inside.name c.self.inside.declared c.self.invariant)
