@@ -51,28 +51,30 @@ module _ (Is : Typing → Type 0) where
     }
 
 -- a table whose nodes are those of given types, and what typing a term there says of typings at these types
-module _ (th : Theory) (self : Option Function) (ps vars : List Ty) (t : Resolved) (base : List Node) (parameters free : List ℕ) (g : Grows [] base)
-    (given : (ρ : Assignment) → Fits ρ base → (map ρ parameters ≡ ps) × (map ρ free ≡ vars)) where
+module _ (th : Theory) (self : Option Function) (ps vars locs : List Ty) (t : Resolved) (base : List Node) (parameters free loose : List ℕ) (g : Grows [] base)
+    (given : (ρ : Assignment) → Fits ρ base → (map ρ parameters ≡ ps) × (map ρ free ≡ vars) × (map ρ loose ≡ locs)) where
   abbrev pub Outermost : Scope
-  Outermost = record { parameters = parameters; vars = free; locs = [] }
+  Outermost = record { parameters = parameters; vars = free; locs = loose }
 
-  to_given : (ρ : Assignment) (d : Typing) → Fits ρ base → IsTypingOf th self (map ρ parameters) (map ρ free) [] t d → IsTypingOf th self ps vars [] t d
+  to_given : (ρ : Assignment) (d : Typing) → Fits ρ base → IsTypingOf th self (map ρ parameters) (map ρ free) (map ρ loose) t d → IsTypingOf th self ps vars locs t d
   to_given ρ d f w =
       let x = given ρ f in
-      subst (λ us. IsTypingOf th self ps us [] t d) x.1 (subst (λ us. IsTypingOf th self us (map ρ free) [] t d) x.0 w)
+      subst (λ us. IsTypingOf th self ps vars us t d) x.2
+      (subst (λ us. IsTypingOf th self ps us (map ρ loose) t d) x.1 (subst (λ us. IsTypingOf th self us (map ρ free) (map ρ loose) t d) x.0 w))
 
-  from_given : (ρ : Assignment) (d : Typing) → Fits ρ base → IsTypingOf th self ps vars [] t d → IsTypingOf th self (map ρ parameters) (map ρ free) [] t d
+  from_given : (ρ : Assignment) (d : Typing) → Fits ρ base → IsTypingOf th self ps vars locs t d → IsTypingOf th self (map ρ parameters) (map ρ free) (map ρ loose) t d
   from_given ρ d f w =
       let x = given ρ f in
-      subst (λ us. IsTypingOf th self (map ρ parameters) us [] t d) (sym x.1) (subst (λ us. IsTypingOf th self us vars [] t d) (sym x.0) w)
+      subst (λ us. IsTypingOf th self (map ρ parameters) (map ρ free) us t d) (sym x.2)
+      (subst (λ us. IsTypingOf th self (map ρ parameters) us locs t d) (sym x.1) (subst (λ us. IsTypingOf th self us vars locs t d) (sym x.0) w))
 
   -- at the type of a node
   pub typed_at : (new : List Node) (u : Ty) (e : ℕ) (ok : Truth) → ((ρ : Assignment) → Fits ρ base → ρ e ≡ u) →
       Outcome base new Typing (HasTyping th self Outermost t e) ok →
-      Outcome [] new Typing (λ ρ d. IsTypingOf th self ps vars [] t d × (type_of d ≡ u)) ok
+      Outcome [] new Typing (λ ρ d. IsTypingOf th self ps vars locs t d × (type_of d ≡ u)) ok
   typed_at new u e ok reads second = in_turn (grown_of g) makes new ok second where
     makes : Makes [] base (λ ρ. tt) Nothing (HasTyping th self Outermost t e) (λ a d. d)
-        (λ ρ d. IsTypingOf th self ps vars [] t d × (type_of d ≡ u))
+        (λ ρ d. IsTypingOf th self ps vars locs t d × (type_of d ≡ u))
     makes = record {
       there = λ ρ d f p q. (to_given ρ d f q.0, q.1 ∙ reads ρ f);
       back = λ ρ d f w. (tt, tt, λ φ f' a r. (d, (from_given φ d f' w.0, w.1 ∙ sym (reads φ f')), refl));
@@ -80,11 +82,11 @@ module _ (th : Theory) (self : Option Function) (ps vars : List Ty) (t : Resolve
     }
 
   abbrev Here : Assignment → Typing → Type 0
-  Here ρ d = IsTypingOf th self (map ρ parameters) (map ρ free) [] t d
+  Here ρ d = IsTypingOf th self (map ρ parameters) (map ρ free) (map ρ loose) t d
 
   -- at any type, which is that of an open node
   pub typed_anyhow : (new : List Node) (ok : Truth) → IsNodeTable base → Outcome (base ++ Open ∷ []) new Typing (HasTyping th self Outermost t (length base)) ok →
-      Outcome [] new Typing (λ ρ d. IsTypingOf th self ps vars [] t d) ok
+      Outcome [] new Typing (λ ρ d. IsTypingOf th self ps vars locs t d) ok
   typed_anyhow new ok table second = in_turn (grown_of g) outer new ok (in_turn (opened base table) inner new ok second) where
     inner : Makes base (base ++ Open ∷ []) (λ ρ. ρ (length base)) (λ ρ u. Unit {0}) (HasTyping th self Outermost t (length base)) (λ u d. d) Here
     inner = record {
@@ -93,7 +95,7 @@ module _ (th : Theory) (self : Option Function) (ps vars : List Ty) (t : Resolve
       apart = λ ρ φ d d' f f' p p' q q' r. (sym q.1 ∙ ap type_of r ∙ q'.1, r);
     }
 
-    outer : Makes [] base (λ ρ. tt) Nothing Here (λ a d. d) (λ ρ d. IsTypingOf th self ps vars [] t d)
+    outer : Makes [] base (λ ρ. tt) Nothing Here (λ a d. d) (λ ρ d. IsTypingOf th self ps vars locs t d)
     outer = record {
       there = λ ρ d f p q. to_given ρ d f q;
       back = λ ρ d f w. (tt, tt, λ φ f' a r. (d, from_given φ d f' w, refl));

@@ -1,5 +1,5 @@
 -- What the answers on typings promise.
-use Rattle.std.specs.Prelude.{ℕ, ◌≡◌, List, [], map, Option, Some, None}
+use Rattle.std.specs.Prelude.{ℕ, ◌≡◌, List, [], map, reverse, Option, Some, None}
 use Rattle.tg_model.specs.Types.{Ty, tys}
 use Rattle.tg_model.specs.Theory.{Theory, Function}
 use Rattle.tg_model.specs.Accepted.{parameters_from}
@@ -35,8 +35,9 @@ own_parameters (Some x) = parameters_from 1 x.parameters
 abbrev pub IsTypingIn : Theory → Option Function → List declared.Ty → Resolved → Typing → Type 0
 IsTypingIn th self vars t d = IsTypingOf th self (own_parameters self) (map ty vars) [] t d
 
-abbrev pub IsTypingAt : Theory → Option Function → List declared.Ty → Resolved → Ty → Typing → Type 0
-IsTypingAt th self vars t u d = IsTypingIn th self vars t d × (type_of d ≡ u)
+-- a typing of the term at a type, where the loose bound variables have the types `locs`, the outermost first
+abbrev pub IsTypingAt : Theory → Option Function → List declared.Ty → List declared.Ty → Resolved → Ty → Typing → Type 0
+IsTypingAt th self vars locs t u d = IsTypingOf th self (own_parameters self) (map ty vars) (reverse (map ty locs)) t d × (type_of d ≡ u)
 
 -- nodes of the type parameters and of the variables' types
 pub record Prepares (old new : List Node) (self : Option Function) (vars : List declared.Ty) (parameters free : List ℕ) : Type 0 where

@@ -57,26 +57,30 @@ pub fn count_typings(
     Ok(answer(table.settle()?))
 }
 
-/// How many typings a term has at a type.
+/// How many typings a term has at a type, where `locs` are the types of the loose bound variables, the
+/// outermost first.
 pub fn count_typings_at(
     alloc: Global,
     declared: &Declarations,
     own: Option<&FunDef>,
     vars: &[Ty],
+    locs: &[Ty],
     t: &Resolved,
     at: &Ty,
 ) -> Result<Typings, AllocError>
     requires closed { HasClosedTypes (theory [] declared.now) (option_map (λ def. function def.now) own) }
     requires vars { AreDeclared (types vars.now) }
+    requires locs { AreDeclared (types locs.now) }
     requires at { IsDeclared (ty at.now) }
     ensures { IfOk result (λ answer. Counts
-        (IsTypingAt (theory [] declared.now) (option_map (λ def. function def.now) own.entry) vars.now (resolved t.now) (ty at.now)) answer) }
+        (IsTypingAt (theory [] declared.now) (option_map (λ def. function def.now) own.entry) vars.now locs.now (resolved t.now) (ty at.now)) answer) }
 {
     let mut table = Table::new(alloc);
     let context = prepare(alloc, &mut table, declared, own, vars)?;
+    let given = state_all(alloc, &mut table, locs)?;
+    let mut loose = Vec::from_slice(alloc, given.as_slice())?;
     let expected = state(alloc, &mut table, at)?;
-    let mut locs = Vec::new(alloc);
-    if !type_at(&context, &mut table, &mut locs, t, expected)? {
+    if !type_at(&context, &mut table, &mut loose, t, expected)? {
         return Ok(Typings::None);
     }
     Ok(answer(table.settle()?))

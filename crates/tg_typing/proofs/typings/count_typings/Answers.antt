@@ -16,15 +16,15 @@ use Rattle.tg_typing.proofs.typings.count_typings.Goals as goal
 pub type_at-requires-clause-scope : goal.type_at-requires-clause-scope
 type_at-requires-clause-scope c =
     scope_starts c.in_ok-context.context c.args.declared.now (option_map (λ (def : Bor FunDef). function def.now) c.args.own) c.args.vars.now (resolved c.args.t.now) c.new-table.result
-    c.prepare.new.table c.push.new.self c.push.new.self c.new-locs.result.items c.in_ok-expected.expected true c.in_ok-context.ensures.declared c.in_ok-context.ensures.own
-    c.new-table.ensures c.in_ok-context.ensures.nodes c.new-locs.ensures.items (length c.push.new.self) (let l : length c.push.new.self ≡ suc (length c.prepare.new.table) = ap length c.in_ok-expected.ensures.ok ∙ pushed_length c.prepare.new.table Open in omega arith)
+    c.prepare.new.table true c.in_ok-context.ensures.declared c.in_ok-context.ensures.own
+    c.new-table.ensures c.in_ok-context.ensures.nodes c.push.new.self c.push.new.self c.new-locs.result.items c.in_ok-expected.expected c.new-locs.ensures.items (length c.push.new.self) (let l : length c.push.new.self ≡ suc (length c.prepare.new.table) = ap length c.in_ok-expected.ensures.ok ∙ pushed_length c.prepare.new.table Open in omega arith)
 
 pub returns-then-not-branch : goal.returns-then-not-branch
 returns-then-not-branch c =
     let all : Outcome [] c.type_at.new.table Typing (λ ρ. (IsTypingIn (theory [] c.args.declared.now) (option_map (λ (def : Bor FunDef). function def.now) c.args.own) c.args.vars.now (resolved c.args.t.now))) c.in_ok-type_at.field-0 =
     counts_anyhow c.in_ok-context.context c.args.declared.now (option_map (λ (def : Bor FunDef). function def.now) c.args.own) c.args.vars.now (resolved c.args.t.now) c.new-table.result
-    c.prepare.new.table c.push.new.self c.type_at.new.table c.new-locs.result.items c.in_ok-expected.expected c.in_ok-type_at.field-0 c.in_ok-context.ensures.declared c.in_ok-context.ensures.own
-    c.new-table.ensures c.in_ok-context.ensures.nodes c.new-locs.ensures.items
+    c.prepare.new.table c.in_ok-type_at.field-0 c.in_ok-context.ensures.declared c.in_ok-context.ensures.own
+    c.new-table.ensures c.in_ok-context.ensures.nodes c.push.new.self c.type_at.new.table c.new-locs.result.items c.in_ok-expected.expected c.new-locs.ensures.items
     c.in_ok-expected.ensures.table c.in_ok-expected.ensures.ok c.in_ok-expected.ensures.place c.in_ok-type_at.ensures.0 in
     impossible (IsTypingIn (theory [] c.args.declared.now) (option_map (λ (def : Bor FunDef). function def.now) c.args.own) c.args.vars.now (resolved c.args.t.now)) (subst (Outcome [] c.type_at.new.table Typing (λ ρ. (IsTypingIn (theory [] c.args.declared.now) (option_map (λ (def : Bor FunDef). function def.now) c.args.own) c.args.vars.now (resolved c.args.t.now)))) c.if-not-branch.true all)
 
@@ -32,8 +32,8 @@ pub returns : goal.returns
 returns c =
     let all : Outcome [] c.type_at.new.table Typing (λ ρ. (IsTypingIn (theory [] c.args.declared.now) (option_map (λ (def : Bor FunDef). function def.now) c.args.own) c.args.vars.now (resolved c.args.t.now))) c.in_ok-type_at.field-0 =
     counts_anyhow c.in_ok-context.context c.args.declared.now (option_map (λ (def : Bor FunDef). function def.now) c.args.own) c.args.vars.now (resolved c.args.t.now) c.new-table.result
-    c.prepare.new.table c.push.new.self c.type_at.new.table c.new-locs.result.items c.in_ok-expected.expected c.in_ok-type_at.field-0 c.in_ok-context.ensures.declared c.in_ok-context.ensures.own
-    c.new-table.ensures c.in_ok-context.ensures.nodes c.new-locs.ensures.items
+    c.prepare.new.table c.in_ok-type_at.field-0 c.in_ok-context.ensures.declared c.in_ok-context.ensures.own
+    c.new-table.ensures c.in_ok-context.ensures.nodes c.push.new.self c.type_at.new.table c.new-locs.result.items c.in_ok-expected.expected c.new-locs.ensures.items
     c.in_ok-expected.ensures.table c.in_ok-expected.ensures.ok c.in_ok-expected.ensures.place c.in_ok-type_at.ensures.0 in
     subst (Counts (IsTypingIn (theory [] c.args.declared.now) (option_map (λ (def : Bor FunDef). function def.now) c.args.own) c.args.vars.now (resolved c.args.t.now))) (sym c.answer.ensures)
     (counted (IsTypingIn (theory [] c.args.declared.now) (option_map (λ (def : Bor FunDef). function def.now) c.args.own) c.args.vars.now (resolved c.args.t.now)) c.type_at.new.table c.in_ok-settle.field-0
