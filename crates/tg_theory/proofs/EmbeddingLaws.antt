@@ -1,6 +1,6 @@
 -- A core term has the typings of the resolved term that it is embedded as.
-use Rattle.std.proofs.Common.{ℕ, zero, suc, ◌≡◌, Bool, true, false, ◌&&◌, nat_eq, List, [], ◌∷◌, map, length, Option, Some, None, refl, sym, ◌∙◌, ap, subst, inl, inr, if◌then◌else◌}
-use Rattle.std.specs.Prelude.{slice_get}
+use Rattle.std.proofs.Common.{ℕ, zero, suc, ◌≡◌, Bool, true, false, ◌&&◌, nat_eq, List, [], ◌∷◌, map, length, Option, Some, None, refl, sym, ◌∙◌, ap, subst, inl, inr, arith, if◌then◌else◌}
+use Rattle.std.specs.Prelude.{slice_get, option_map}
 use Rattle.std.specs.Option.{option_map_or}
 use Rattle.std.proofs.lemmas.Bool.Decides.{eqb_tells}
 use Rattle.tg_model.specs.Tree as tree
@@ -30,8 +30,8 @@ same_is [] [] e = refl
 same_is [] (n ∷ ns) e = cc e
 same_is (m ∷ ms) [] e = cc e
 same_is (m ∷ ms) (n ∷ ns) e =
-    let first : n ≡ m = sym (equal m n (and_left (nat_eq m n) (same_sizes ms ns) e)) in
-    let rest : ns ≡ ms = same_is ms ns (and_right (nat_eq m n) (same_sizes ms ns) e) in
+    let first : n ≡ m = equal n m (and_left (nat_eq n m) (same_sizes ms ns) e) in
+    let rest : ns ≡ ms = same_is ms ns (and_right (nat_eq n m) (same_sizes ms ns) e) in
     λ i. first i ∷ rest i
 
 same_self : (ns : List ℕ) → same_sizes ns ns ≡ true
@@ -82,6 +82,28 @@ module _ (th : Theory) where
     branches_same (tree.arm n body arms) [] w = refl
     branches_same (tree.arm n body arms) (h ∷ hs) w = λ i. resolved.branch h (unnamed n) (same body w.0 i) (branches_same arms hs w.1 i)
 
+  -- what a typing of an embedded `case` has
+  record CaseParts (self : Option Function) (ps vars : List Ty) (n : ℕ) (t : Tree) (arms : Arms) (locs : List Ty) : Type 0 where
+    sizes : AreBranchSizes th n (branch_sizes arms)
+    typing : Typing
+    is : IsTypingOf th self ps vars locs (embedded th t) typing
+    instance : List Ty
+    answer : Ty
+    branches : ArmTypings
+    are : AreBranchTypings th self ps vars locs n instance answer (branches_embedded th arms (heads_of th n)) branches
+
+  case_parts : (self : Option Function) (ps vars : List Ty) (n : ℕ) (t : Tree) (arms : Arms) (d : Typing) (locs : List Ty)
+      → IsTypingOf th self ps vars locs (embedded th (tree.case n t arms)) d → CaseParts self ps vars n t arms locs
+  case_parts self ps vars n t arms d locs h = by (are_sizes th n (branch_sizes arms)) refl d h
+    where
+      by : (b : Bool) → are_sizes th n (branch_sizes arms) ≡ b → (d : Typing)
+          → IsTypingOf th self ps vars locs (if b then resolved.case n (embedded th t) (branches_embedded th arms (heads_of th n)) else resolved.misused resolved.none) d
+          → CaseParts self ps vars n t arms locs
+      by false e d h = absurd h
+      by true e (branching us u d ds) (is, q, p, each) =
+          record { sizes = sizes_are n (branch_sizes arms) e; typing = d; is = p; instance = us; answer = u; branches = ds; are = each }
+      by true e d h = absurd h
+
   module _ (self : Option Function) (ps vars : List Ty) where
     mutual
       whole : (t : Tree) (d : Typing) (locs : List Ty) → IsTypingOf th self ps vars locs (embedded th t) d → EachCase th t
@@ -95,15 +117,9 @@ module _ (th : Theory) where
       whole (tree.choice ts) (compound t ds) locs (args, each) = all_whole ts ds locs each
       whole (tree.op o ts) (compound t ds) locs (is, each) = all_whole ts ds locs each
       whole (tree.bind t body) (binding u v d e) locs (p, q, b, s) = (whole t d locs p, whole body e (u ∷ locs) b)
-      whole (tree.case n t arms) d locs h = by (are_sizes th n (branch_sizes arms)) refl d h
-        where
-          by : (b : Bool) → are_sizes th n (branch_sizes arms) ≡ b → (d : Typing)
-              → IsTypingOf th self ps vars locs (if b then resolved.case n (embedded th t) (branches_embedded th arms (heads_of th n)) else resolved.misused resolved.none) d
-              → EachCase th (tree.case n t arms)
-          by false e d h = absurd h
-          by true e (branching us u d ds) (is, q, p, each) =
-              (sizes_are n (branch_sizes arms) e, whole t d locs p, arms_whole arms (heads_of th n) ds n us u locs (as_many th n (branch_sizes arms) (sizes_are n (branch_sizes arms) e)) each)
-          by true e d h = absurd h
+      whole (tree.case n t arms) d locs h =
+          let p = case_parts self ps vars n t arms d locs h in
+          (p.sizes, whole t p.typing locs p.is, arms_whole arms (heads_of th n) p.branches n p.instance p.answer locs (as_many th n (branch_sizes arms) p.sizes) p.are)
       whole t d locs h = absurd h
 
       all_whole : (ts : Trees) (ds : Typings) (locs : List Ty) → AreTypingsOf th self ps vars locs (all_embedded th ts) ds → EachCases th ts

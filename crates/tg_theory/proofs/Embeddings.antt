@@ -77,6 +77,33 @@ pub next_branch : (th : Theory) (bs : List Branch) (hs : List resolveds.Head) (i
     ≡ (let s : Seen = record { head = h; names = unnamed b.vars; body = embedded th b.body } in s) ∷ seen_all th (drop (suc i) bs) (drop (suc i) hs)
 next_branch th bs hs i b h e f = λ j. seen_all th (drop_at bs i b e j) (drop_at hs i h f j)
 
+pub branch_kept : (th : Theory) (bs : List Branch) (hs : List resolveds.Head) (i : ℕ) (b : Branch) (h : resolveds.Head) (all all' : List resolved_branch.Branch)
+    (new : resolved_branch.Branch) (every : List Seen) → slice_get bs i ≡ Some b → slice_get hs i ≡ Some h
+    → map seen all ++ seen_all th (drop i bs) (drop i hs) ≡ every → all' ≡ all ++ new ∷ [] → head new.head ≡ h → new.names ≡ unnamed b.vars
+    → resolved new.body ≡ embedded th b.body → map seen all' ++ seen_all th (drop (i + 1) bs) (drop (i + 1) hs) ≡ every
+branch_kept th bs hs i b h all all' new every at ath kept more q names body =
+    let one : seen new ≡ record { head = h; names = unnamed b.vars; body = embedded th b.body } =
+    seen-Branch new ∙ (λ j. record { head = q j; names = names j; body = body j }) in
+    let next : i + 1 ≡ suc i = omega arith in
+    ap (λ l. map seen l ++ seen_all th (drop (i + 1) bs) (drop (i + 1) hs)) more
+    ∙ ap (λ l. l ++ seen_all th (drop (i + 1) bs) (drop (i + 1) hs)) (map-append seen all (new ∷ []))
+    ∙ append_assoc (map seen all) (seen new ∷ []) (seen_all th (drop (i + 1) bs) (drop (i + 1) hs))
+    ∙ (λ j. map seen all ++ one j ∷ seen_all th (drop (next j) bs) (drop (next j) hs))
+    ∙ ap (λ l. map seen all ++ l) (sym (next_branch th bs hs i b h at ath))
+    ∙ kept
+
+pub branches_end : (th : Theory) (bs : List Branch) (hs : List resolveds.Head) (left : List Seen) (all : List resolved_branch.Branch)
+    → map seen all ++ left ≡ seen_all th bs hs → left ≡ [] → branches all ≡ branches_embedded th (arms bs) hs
+branches_end th bs hs left all kept none =
+    ap branched (sym (append-nil (map seen all)) ∙ ap (λ l. map seen all ++ l) (sym none) ∙ kept) ∙ embedded_branches th bs hs
+
+pub none_left : (th : Theory) (bs : List Branch) (hs : List resolveds.Head) (i : ℕ) → drop i bs ≡ [] → seen_all th (drop i bs) (drop i hs) ≡ []
+none_left th bs hs i e = ap (λ l. seen_all th l (drop i hs)) e
+
+pub unnamed_more : (n : ℕ) → unnamed n ++ [] ∷ [] ≡ unnamed (n + 1)
+unnamed_more zero = refl
+unnamed_more (suc n) = let e : suc (n + 1) ≡ suc n + 1 = omega arith in ap (λ l. [] ∷ l) (unnamed_more n) ∙ ap unnamed e
+
 -- ---- heads
 
 head_number : (c count i : ℕ) → slice_get (heads_from c count) i ≡ option_map resolveds.of (slice_get (numbers_from c count) i)
@@ -93,19 +120,24 @@ heads_numbered D d i = by (slice_get D.datatypes d)
     by None = refl
     by (Some x) = head_number (first_constructor D.datatypes (suc d)) (length x.constructors) i
 
-pub numbered_head : (D : Declared) (n i : ℕ) (ns : List ℕ) → ¬ (n ≡ 0) → ns ≡ constructor_numbers D.datatypes n
-    → option_map resolveds.of (slice_get ns i) ≡ slice_get (heads_of (theory [] D) n) i
-numbered_head D zero i ns p e = absurd (p refl)
-numbered_head D (suc d) i ns p e = ap (λ l. option_map resolveds.of (slice_get l i)) e ∙ sym (heads_numbered D d i)
+pub head_there : (D : Declared) (n i c : ℕ) (ns : List ℕ) → ¬ (n ≡ 0) → ns ≡ constructor_numbers D.datatypes n → slice_get ns i ≡ Some c
+    → Some (resolveds.of c) ≡ slice_get (heads_of (theory [] D) n) i
+head_there D zero i c ns p e at = absurd (p refl)
+head_there D (suc d) i c ns p e at = ap (option_map resolveds.of) (sym at) ∙ ap (λ l. option_map resolveds.of (slice_get l i)) e ∙ sym (heads_numbered D d i)
 
-pub ruleset heads = (numbered_head)
+pub head_missing : (D : Declared) (n i : ℕ) (ns : List ℕ) → ¬ (n ≡ 0) → ns ≡ constructor_numbers D.datatypes n → slice_get ns i ≡ None
+    → None ≡ slice_get (heads_of (theory [] D) n) i
+head_missing D zero i ns p e at = absurd (p refl)
+head_missing D (suc d) i ns p e at = ap (option_map resolveds.of) (sym at) ∙ ap (λ l. option_map resolveds.of (slice_get l i)) e ∙ sym (heads_numbered D d i)
+
+pub ruleset heads = (head_there, head_missing)
 
 -- ---- sizes
 
-equal : (m n : ℕ) → m ≡ n → nat_eq m n ≡ true
+pub equal : (m n : ℕ) → m ≡ n → nat_eq m n ≡ true
 equal m n e = elim (eqb_tells m n) [ inl p ↦ p.0 | inr p ↦ absurd (p.1 e) ]
 
-differ : (m n : ℕ) → ¬ (m ≡ n) → nat_eq m n ≡ false
+pub differ : (m n : ℕ) → ¬ (m ≡ n) → nat_eq m n ≡ false
 differ m n e = elim (eqb_tells m n) [ inl p ↦ absurd (e p.1) | inr p ↦ p.0 ]
 
 pub sizes_uneven : (bs : List Branch) (cons : List ConDef) → ¬ (length bs ≡ length cons)
@@ -113,7 +145,7 @@ pub sizes_uneven : (bs : List Branch) (cons : List ConDef) → ¬ (length bs ≡
 sizes_uneven [] [] e = absurd (e refl)
 sizes_uneven [] (c ∷ cs) e = refl
 sizes_uneven (b ∷ bs) [] e = refl
-sizes_uneven (b ∷ bs) (c ∷ cs) e = by (nat_eq (length c.args) b.vars) (sizes_uneven bs cs (λ p. e (ap suc p)))
+sizes_uneven (b ∷ bs) (c ∷ cs) e = by (nat_eq b.vars (length c.args)) (sizes_uneven bs cs (λ p. e (ap suc p)))
   where
     by : (x : Bool) → false ≡ same_sizes (map (λ (c : ConDef). length c.args) cs) (branch_sizes (arms bs))
         → false ≡ (x && same_sizes (map (λ (c : ConDef). length c.args) cs) (branch_sizes (arms bs)))
@@ -139,17 +171,39 @@ sizes_undeclared D (suc d) ns p e =
     ap (λ o. option_map_or (λ ms. same_sizes ms ns) (option_map (λ (x : model.Datatype). map (λ (c : model.Constructor). length c.arguments) x.constructors) o) false) e
 
 pub natural_sizes : (D : Declared) (n : ℕ) (bs : List Branch) (z s : Branch) → n ≡ 0 → slice_get bs 0 ≡ Some z → slice_get bs 1 ≡ Some s → length bs ≡ 2
-    → z.vars ≡ 0 → s.vars ≡ 1 → true ≡ are_sizes (theory [] D) n (branch_sizes (arms bs))
-natural_sizes D n [] z s m e f l p q = cc e
-natural_sizes D n (x ∷ []) z s m e f l p q = cc f
-natural_sizes D n (x ∷ y ∷ []) z s m e f l p q =
+    → (nat_eq z.vars 0 && nat_eq s.vars 1) ≡ are_sizes (theory [] D) n (branch_sizes (arms bs))
+natural_sizes D n [] z s m e f l = cc e
+natural_sizes D n (x ∷ []) z s m e f l = cc f
+natural_sizes D n (x ∷ y ∷ []) z s m e f l =
     let a : x ≡ z = cc e in
     let b : y ≡ s = cc f in
-    subst (λ k. true ≡ are_sizes (theory [] D) k (x.vars ∷ y.vars ∷ [])) (sym m)
-    (λ i. same_sizes (0 ∷ 1 ∷ []) ((sym p ∙ ap (λ (w : Branch). w.vars) (sym a)) i ∷ (sym q ∙ ap (λ (w : Branch). w.vars) (sym b)) i ∷ []))
-natural_sizes D n (x ∷ y ∷ w ∷ bs) z s m e f l p q = absurd (omega (arith, l))
+    subst (λ k. (nat_eq z.vars 0 && nat_eq s.vars 1) ≡ are_sizes (theory [] D) k (x.vars ∷ y.vars ∷ [])) (sym m)
+    ((λ i. nat_eq (sym a i).vars 0 && nat_eq (sym b i).vars 1) ∙ ap (λ q. nat_eq x.vars 0 && q) (sym (last (nat_eq y.vars 1))))
+  where
+    last : (q : Bool) → (q && true) ≡ q
+    last true = refl
+    last false = refl
+natural_sizes D n (x ∷ y ∷ w ∷ bs) z s m e f l = absurd (omega (arith, l))
 
-pub ruleset branch_sizes_of = (sizes_declared, sizes_undeclared, natural_sizes)
+pub naturals_uneven : (D : Declared) (n : ℕ) (bs : List Branch) → n ≡ 0 → ¬ (length bs ≡ 2) → false ≡ are_sizes (theory [] D) n (branch_sizes (arms bs))
+naturals_uneven D n bs m l = subst (λ k. false ≡ are_sizes (theory [] D) k (branch_sizes (arms bs))) (sym m) (by bs l)
+  where
+    by : (bs : List Branch) → ¬ (length bs ≡ 2) → false ≡ same_sizes (0 ∷ 1 ∷ []) (branch_sizes (arms bs))
+    by [] l = refl
+    by (x ∷ []) l = drop_both (nat_eq x.vars 0)
+      where
+        drop_both : (q : Bool) → false ≡ (q && false)
+        drop_both true = refl
+        drop_both false = refl
+    by (x ∷ y ∷ []) l = absurd (l refl)
+    by (x ∷ y ∷ z ∷ bs) l = both (nat_eq x.vars 0) (nat_eq y.vars 1)
+      where
+        both : (q r : Bool) → false ≡ (q && (r && false))
+        both true true = refl
+        both true false = refl
+        both false r = refl
+
+pub ruleset branch_sizes_of = (sizes_declared, sizes_undeclared, naturals_uneven)
 
 -- ---- terms
 

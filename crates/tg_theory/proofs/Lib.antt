@@ -4,3 +4,7 @@ pub mod Taken
 pub mod DatatypeFaults
 pub mod BuiltLaws
 pub mod WholeLaws
+pub mod EmbeddingLaws
+pub mod Embeddings
+pub mod ClosedTypes
+pub mod FormedLaws

@@ -39,7 +39,7 @@ elements_tys : (us : List types.Ty) → types.elements (types.tys us) ≡ us
 elements_tys [] = refl
 elements_tys (u ∷ us) = ap (λ l. u ∷ l) (elements_tys us)
 
-type_count : (ts : List Ty) → length (types.elements (types ts)) ≡ length ts
+pub type_count : (ts : List Ty) → length (types.elements (types ts)) ≡ length ts
 type_count ts = ap length (elements_tys (map ty ts)) ∙ length-map ts ty
 
 pub parameters_yes : (ts : List Ty) (count : ℕ) → length ts ≡ count

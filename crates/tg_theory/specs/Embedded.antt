@@ -10,7 +10,7 @@ use Rattle.tg_accept.specs.Resolved.{Head, Resolved, Resolveds, Branches, bound,
 
 abbrev pub same_sizes : List ℕ → List ℕ → Bool
 same_sizes [] [] = true
-same_sizes (m ∷ ms) (n ∷ ns) = nat_eq m n && same_sizes ms ns
+same_sizes (m ∷ ms) (n ∷ ns) = nat_eq n m && same_sizes ms ns
 same_sizes ms ns = false
 
 -- how many arguments the constructors of datatype `n` have, 0 for nat

@@ -1,8 +1,10 @@
 pub mod Built
 pub mod Causes
 pub mod Code
+pub mod Embedded
 pub mod Matched
 pub mod Names
 pub mod Right
 pub mod Taking
+pub mod Typed
 pub mod Wholes

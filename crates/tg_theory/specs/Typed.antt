@@ -9,7 +9,15 @@ use Rattle.tg_model.specs.Theory.{Theory, Datatype, numbered}
 use Rattle.tg_model.specs.TermTyping.{IsTyped, IsWellFormed}
 use Rattle.tg_types.specs.declared.types.Ty as declared
 use Rattle.tg_types.specs.Types.{ty, types as types_of}
+use Rattle.tg_typing.specs.declared.typings.Typings.{Typings}
+use Rattle.tg_typing.specs.declared.typings.Typings.TheVariants.{None, One, Several}
 use Rattle.tg_shared_types.specs.Growth.{IsDeclared, AreDeclared}
+
+-- there is a typing
+abbrev pub has_typing : Typings → Bool
+has_typing None = false
+has_typing One = true
+has_typing Several = true
 
 -- no type that is open stands in the type
 abbrev mutual

@@ -1,5 +1,5 @@
 //! Core terms as resolved ones.
-ghost use Rattle.std.specs.Prelude.{◌≡◌, [], IfOk, length, map, option_map, slice_get};
+ghost use Rattle.std.specs.Prelude.{◌≡◌, ◌&&◌, [], IfOk, length, map, nat_eq, option_map, slice_get};
 ghost use Rattle.tg_model.specs.Tree.{trees};
 ghost use Rattle.tg_model.specs.TypeLaws.{branch_sizes};
 ghost use Rattle.tg_accept.specs.Core.{heads_of, unnamed};
@@ -8,7 +8,7 @@ ghost use Rattle.tg_term.specs.View.{arms};
 ghost use Rattle.tg_typing.specs.View.{head, resolved, all_resolved, branches};
 ghost use Rattle.tg_theory.specs.Embedded.{same_sizes, are_sizes, embedded, all_embedded, branches_embedded};
 
-use sqlite_items::{Boxed, Items};
+use sqlite_items::{Boxed, Items, at as item_at};
 use std::alloc::{AllocError, Global};
 use tg_declarations::{ConDef, Declarations};
 use tg_term::{Branch, Node, Term};
@@ -31,20 +31,11 @@ pub(crate) fn embed(
         Node::Free(n) => Ok(Resolved::Free(*n)),
         Node::Lit(n) => Ok(Resolved::Lit(*n)),
         Node::Truth(b) => Ok(Resolved::Truth(*b)),
-        Node::Con(c, ts) => Ok(Resolved::Con(
-            *c,
-            embed_all(alloc, declared, ts.as_slice())?,
-        )),
-        Node::Call(f, ts) => Ok(Resolved::Call(
-            *f,
-            embed_all(alloc, declared, ts.as_slice())?,
-        )),
+        Node::Con(c, ts) => Ok(Resolved::Con(*c, embed_all(alloc, declared, ts.as_slice())?)),
+        Node::Call(f, ts) => Ok(Resolved::Call(*f, embed_all(alloc, declared, ts.as_slice())?)),
         Node::Put(ts) => Ok(Resolved::Put(embed_all(alloc, declared, ts.as_slice())?)),
         Node::If(ts) => Ok(Resolved::If(embed_all(alloc, declared, ts.as_slice())?)),
-        Node::Op(o, ts) => Ok(Resolved::Op(
-            *o,
-            embed_all(alloc, declared, ts.as_slice())?,
-        )),
+        Node::Op(o, ts) => Ok(Resolved::Op(*o, embed_all(alloc, declared, ts.as_slice())?)),
         Node::Case(n, t, bs) => {
             if !has_branches(declared, *n, bs.as_slice()) {
                 return Ok(Resolved::Misused(Items::new(alloc)));
@@ -106,7 +97,10 @@ fn head_at(declared: &Declarations, n: DataId, at: usize) -> Option<Head>
     ensures { option_map head result ≡ slice_get (heads_of (theory [] declared.now) n) at }
 {
     if n != 0 {
-        return declared.constructors(n).get(at).map(|c| Head::Con(*c));
+        return match item_at(declared.constructors(n), at) {
+            Some(c) => Some(Head::Con(*c)),
+            None => None,
+        };
     }
     match at {
         0 => Some(Head::Zero),
@@ -138,10 +132,17 @@ fn has_branches(declared: &Declarations, n: DataId, bs: &[Branch]) -> bool
             None => false,
         };
     }
-    match (bs.get(0), bs.get(1)) {
-        (Some(zero), Some(successor)) => bs.len() == 2 && zero.vars == 0 && successor.vars == 1,
-        _ => false,
+    if bs.len() != 2 {
+        return false;
     }
+    are_natural(bs[0].vars, bs[1].vars)
+}
+
+// The branches for 0 and for `Suc` bind as many variables.
+fn are_natural(zero: u32, successor: u32) -> bool
+    ensures { result ≡ (nat_eq zero 0 && nat_eq successor 1) }
+{
+    zero == 0 && successor == 1
 }
 
 #[tactic(auto, using(crate::proofs::Embeddings::sizes))]

@@ -5,10 +5,12 @@
 mod adding;
 mod building;
 mod calls;
+mod embedding;
 mod errors;
 mod names;
 mod shapes;
 mod theories;
+mod typed;
 mod types;
 
 pub use building::Builder;
