@@ -24,5 +24,5 @@ pub use formula_walking::{abstract_formula, close_formula, instantiate_formula, 
 pub use formulas::{Formula, FormulaNode};
 pub use substituting::{abstract_var, instantiate, lift, subst};
 pub use terms::{Branch, ConId, FunId, Node, OpId, Term};
-pub use valued::depth;
+pub use valued::{copy_value, depth};
 pub use values::Value;

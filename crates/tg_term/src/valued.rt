@@ -33,7 +33,7 @@ fn deepest(vs: &[Value]) -> u32
 
 /// The same value, in memory of its own.
 #[cycle(copy)]
-pub(crate) fn copy_value(alloc: Global, v: &Value) -> Result<Value, AllocError>
+pub fn copy_value(alloc: Global, v: &Value) -> Result<Value, AllocError>
     ensures { IfOk result (λ w. w ≡ v.now) }
 {
     match v {

@@ -8,3 +8,4 @@ pub mod EmbeddingLaws
 pub mod Embeddings
 pub mod ClosedTypes
 pub mod FormedLaws
+pub mod LeastLaws

@@ -1,3 +1,4 @@
+pub mod Bases
 pub mod Built
 pub mod Causes
 pub mod Code

@@ -7,6 +7,7 @@ mod building;
 mod calls;
 mod embedding;
 mod errors;
+mod least;
 mod names;
 mod shapes;
 mod theories;
