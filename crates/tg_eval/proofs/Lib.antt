@@ -1,3 +1,4 @@
 pub mod LimitedAgrees
 pub mod Laws
 pub mod KnownLimits
+pub mod HeldLaws

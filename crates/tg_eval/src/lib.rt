@@ -2,6 +2,10 @@
 //! functions here have no code, and their contracts are the laws.
 #![tactic(auto)]
 
+mod held;
+
+pub use held::Held;
+
 ghost use Rattle.tg_eval.specs.Laws.{LimitedIsValue, LimitedWithoutCalls};
 
 /// In an accepted theory, where a typed term has a limited value, this is its value: on every table that
