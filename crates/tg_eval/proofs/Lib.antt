@@ -2,3 +2,4 @@ pub mod LimitedAgrees
 pub mod Laws
 pub mod KnownLimits
 pub mod HeldLaws
+pub mod OperatorLaws

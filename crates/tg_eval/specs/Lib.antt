@@ -5,3 +5,5 @@ pub mod Code
 pub mod Held
 pub mod Falls
 pub mod Opening
+pub mod Seen
+pub mod Operating

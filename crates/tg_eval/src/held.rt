@@ -1,9 +1,9 @@
 //! Values that share their arguments and know how large they are.
-ghost use Rattle.std.specs.Prelude.{◌≡◌, ◌≤◌, IfOk, option_map};
+ghost use Rattle.std.specs.Prelude.{◌≡◌, ◌≤◌, IfOk};
 ghost use Rattle.tg_model.specs.Value.{number, boolean, made, values};
 ghost use Rattle.tg_eval.specs.Limited.{value_nodes, nodes_of};
 ghost use Rattle.tg_eval.specs.Sizes.{height, heights, counted, most_height};
-ghost use Rattle.tg_eval.specs.Opening.{natural_of, truth_of, constructor_of};
+ghost use Rattle.tg_eval.specs.Seen.{seen};
 
 use sqlite_items::Items;
 use std::alloc::{AllocError, Global};
@@ -64,6 +64,17 @@ impl Model for Held {
     ghost size_decreases = { λ a h. falls a.kind };
 }
 
+/// What a value is made of.
+#[derive(Clone, Copy, Debug)]
+pub enum Seen<'a> {
+    /// A natural.
+    Nat(u64),
+    /// A truth value.
+    Truth(bool),
+    /// A constructor at its arguments.
+    Con(ConId, &'a [Held]),
+}
+
 impl Held {
     /// A natural.
     pub fn nat(n: u64) -> Held
@@ -81,23 +92,17 @@ impl Held {
         }
     }
 
-    /// The natural, if it is one.
-    pub fn as_nat(&self) -> Option<u64>
-        ensures { result ≡ natural_of self.now }
+    /// What the value is made of.
+    pub fn seen(&self) -> Seen<'_>
+        ensures { seen result ≡ self.now }
     {
         match &self.kind {
-            Kind::Nat(n) => Some(*n),
-            _ => None,
-        }
-    }
-
-    /// The truth value, if it is one.
-    pub fn as_truth(&self) -> Option<bool>
-        ensures { result ≡ truth_of self.now }
-    {
-        match &self.kind {
-            Kind::Truth(b) => Some(*b),
-            _ => None,
+            Kind::Nat(n) => Seen::Nat(*n),
+            Kind::Truth(b) => Seen::Truth(*b),
+            Kind::Con(made) => {
+                let made = made.as_ref();
+                Seen::Con(made.con, made.args.as_slice())
+            }
         }
     }
 
@@ -133,19 +138,6 @@ impl Held {
             Kind::Con(m) => Kind::Con(m.clone()?),
         };
         Ok(Held { kind })
-    }
-
-    /// The arguments of a constructor, and its number.
-    pub(crate) fn as_con(&self) -> Option<(ConId, &[Held])>
-        ensures { option_map (λ m. made m.0 (values m.1.now)) result ≡ constructor_of self.now }
-    {
-        match &self.kind {
-            Kind::Con(m) => {
-                let m = m.as_ref();
-                Some((m.con, m.args.as_slice()))
-            }
-            _ => None,
-        }
     }
 
     /// A constructor at its arguments. A value that would be higher than 10,000 isn't made, which is

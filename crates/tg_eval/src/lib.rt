@@ -2,9 +2,12 @@
 //! functions here have no code, and their contracts are the laws.
 #![tactic(auto)]
 
+mod converting;
 mod held;
+mod operating;
 
-pub use held::Held;
+pub use converting::{plain, shared, shared_all};
+pub use held::{Held, Seen};
 
 ghost use Rattle.tg_eval.specs.Laws.{LimitedIsValue, LimitedWithoutCalls};
 
