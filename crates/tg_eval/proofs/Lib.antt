@@ -3,3 +3,4 @@ pub mod Laws
 pub mod KnownLimits
 pub mod HeldLaws
 pub mod OperatorLaws
+pub mod OpeningLaws

@@ -7,3 +7,4 @@ pub mod Falls
 pub mod Opening
 pub mod Seen
 pub mod Operating
+pub mod Evaluating

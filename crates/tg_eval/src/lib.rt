@@ -4,6 +4,7 @@
 
 mod converting;
 mod held;
+mod opening;
 mod operating;
 
 pub use converting::{plain, shared, shared_all};
