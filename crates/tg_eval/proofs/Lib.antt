@@ -4,3 +4,4 @@ pub mod KnownLimits
 pub mod HeldLaws
 pub mod OperatorLaws
 pub mod OpeningLaws
+pub mod StepLaws

@@ -8,7 +8,7 @@ use Rattle.tg_model.specs.Denotation.{operated, quotient, remainder, on_number, 
 use Rattle.tg_term.specs.Operators.{operator, operator_number, operator_number-operator}
 use Rattle.std.proofs.lemmas.Bool.{lt-ltb, ltb-true}
 use Rattle.tg_model.proofs.Booleans.{if_true, if_false}
-use Rattle.tg_eval.specs.Operating.{bounded}
+use Rattle.tg_eval.specs.Operating.{bounded, connects}
 use Rattle.tg_eval.proofs.HeldLaws.{held_height, held_from}
 
 pub quotient_zero : (m n : ℕ) → n ≡ 0 → quotient m n ≡ 0
@@ -184,3 +184,47 @@ pub large : (n : ℕ) → 18446744073709551616 ≤ n → None ≡ bounded (numbe
 large n h = sym (if_false (Some (number n)) None (nat_lt n 18446744073709551616) (not_below n 18446744073709551616 h))
 
 pub ruleset operators = (other_one, other_numbers, other_truths)
+
+-- ---- connectives
+
+not_connective_at : (p : Operator) → p ≢ conjunction → p ≢ disjunction → p ≢ implication → connects p ≡ false
+not_connective_at successor a b c = refl
+not_connective_at negation a b c = refl
+not_connective_at conjunction a b c = absurd (a refl)
+not_connective_at disjunction a b c = absurd (b refl)
+not_connective_at implication a b c = absurd (c refl)
+not_connective_at equality a b c = refl
+not_connective_at less a b c = refl
+not_connective_at less_equal a b c = refl
+not_connective_at plus a b c = refl
+not_connective_at minus a b c = refl
+not_connective_at times a b c = refl
+not_connective_at divide a b c = refl
+not_connective_at modulo a b c = refl
+not_connective_at (unnamed n) a b c = refl
+
+pub not_connective : (o : ℕ) → o ≢ 3 → o ≢ 4 → o ≢ 5 → false ≡ connects (operator o)
+not_connective o a b c =
+    sym (not_connective_at (operator o) (λ e. a (number_is o conjunction e)) (λ e. b (number_is o disjunction e)) (λ e. c (number_is o implication e)))
+
+-- two truth values
+abbrev pub AreTruths : Value → Value → Type 0
+AreTruths (boolean a) (boolean b) = Unit {0}
+AreTruths v w = ⊥
+
+pub joined_unlike : (p : Operator) (v w : Value) → connects p ≡ true → ¬ AreTruths v w → wrong ≡ operated p (v ∷ w ∷ [])
+joined_unlike p v w c h = sym (by p c)
+  where
+    by_truths : (f : Bool → Bool → Bool) (v w : Value) → ¬ AreTruths v w → on_truths f (v ∷ w ∷ []) ≡ wrong
+    by_truths f (boolean a) (boolean b) k = absurd (k tt)
+    by_truths f (boolean a) (number n) k = refl
+    by_truths f (boolean a) (made e vs) k = refl
+    by_truths f (number m) y k = refl
+    by_truths f (made e vs) y k = refl
+    by : (p : Operator) → connects p ≡ true → operated p (v ∷ w ∷ []) ≡ wrong
+    by conjunction e = by_truths _ v w h
+    by disjunction e = by_truths _ v w h
+    by implication e = by_truths _ v w h
+    by o e = cc e
+
+pub ruleset connectives = (not_connective, joined_unlike)

@@ -3,6 +3,7 @@
 #![tactic(auto)]
 
 mod converting;
+mod evaluating;
 mod held;
 mod opening;
 mod operating;

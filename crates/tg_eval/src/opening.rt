@@ -1,7 +1,7 @@
 //! Values taken apart by a `case` or a primitive recursive function, and variables looked up.
 ghost use Rattle.std.specs.Prelude.{◌≡◌, ◌++◌, [], IfOk, OnOk, OnErr, reverse, length, option_map, option_copied, unwrap_or, slice_get};
 ghost use Rattle.tg_declarations.specs.View.{function};
-ghost use Rattle.tg_eval.specs.Opening.{parts_of};
+ghost use Rattle.tg_eval.specs.Opening.{parts_of, truth_of};
 ghost use Rattle.tg_model.specs.Denotation.{opened, datatype_of_place};
 ghost use Rattle.tg_model.specs.Theory.{numbered, datatype_of, first_constructor};
 ghost use Rattle.tg_types.specs.Types.{ty};
@@ -134,6 +134,24 @@ fn data_number(t: &Ty) -> DataId
         Ty::Param(_) => 0,
         Ty::Meta(_) => 0,
     }
+}
+
+/// The truth value that a value is.
+pub(crate) fn truth_of(v: &Held) -> Option<bool>
+    ensures { result ≡ truth_of v.now }
+{
+    match v.seen() {
+        Seen::Truth(b) => Some(b),
+        Seen::Nat(_) => None,
+        Seen::Con(_, _) => None,
+    }
+}
+
+/// The item at a place, from 0.
+pub(crate) fn at<T>(items: &[T], at: usize) -> Option<&T>
+    ensures { option_copied result ≡ slice_get items.now at }
+{
+    items.get(at)
 }
 
 /// The item of a number, from 1.

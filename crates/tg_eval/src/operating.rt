@@ -1,9 +1,10 @@
 //! What the operators give on values.
-ghost use Rattle.std.specs.Prelude.{◌≡◌, ◌+◌, ◌-◌, ◌*◌, [], ◌∷◌, option_map, false};
+ghost use Rattle.std.specs.Prelude.{◌≡◌, ◌+◌, ◌-◌, ◌*◌, [], ◌∷◌, true, false};
+ghost use Rattle.tg_eval.specs.Limited.{decided};
 ghost use Rattle.tg_model.specs.Denotation.{operated, quotient, remainder};
 ghost use Rattle.tg_model.specs.Value.{number, boolean, same_value, same_values, values};
 ghost use Rattle.tg_term.specs.Operators.{operator};
-ghost use Rattle.tg_eval.specs.Operating.{bounded};
+ghost use Rattle.tg_eval.specs.Operating.{bounded, connects};
 
 use crate::held::{Held, Seen};
 use tg_term::OpId;
@@ -39,6 +40,39 @@ pub(crate) fn binary(o: OpId, v: &Held, w: &Held) -> Option<Held>
         (Seen::Nat(m), Seen::Nat(n)) => of_numbers(o, m, n),
         (Seen::Truth(a), Seen::Truth(b)) => Some(of_truths(o, a, b)),
         _ => Some(wrong()),
+    }
+}
+
+/// Whether an operator is `&`, `|` or `-->`.
+#[tactic(auto, using(crate::proofs::OperatorLaws::connectives))]
+pub(crate) fn is_connective(o: OpId) -> bool
+    ensures { result ≡ connects (operator o) }
+{
+    matches!(o, 3 | 4 | 5)
+}
+
+/// What the left side of a connective decides alone.
+#[tactic(auto, using(crate::proofs::OperatorLaws::connectives))]
+pub(crate) fn decided(o: OpId, v: &Held) -> Option<bool>
+    ensures { result ≡ decided (operator o) v.now }
+{
+    match (o, v.seen()) {
+        (3, Seen::Truth(false)) => Some(false),
+        (4, Seen::Truth(true)) => Some(true),
+        (5, Seen::Truth(false)) => Some(true),
+        _ => None,
+    }
+}
+
+/// The value of a connective.
+#[tactic(auto, using(crate::proofs::OperatorLaws::connectives))]
+pub(crate) fn joined(o: OpId, v: &Held, w: &Held) -> Held
+    requires { connects (operator o) ≡ true }
+    ensures { result ≡ operated (operator o) (v.now ∷ w.now ∷ []) }
+{
+    match (v.seen(), w.seen()) {
+        (Seen::Truth(a), Seen::Truth(b)) => of_truths(o, a, b),
+        _ => wrong(),
     }
 }
 
