@@ -5,3 +5,4 @@ pub mod HeldLaws
 pub mod OperatorLaws
 pub mod OpeningLaws
 pub mod StepLaws
+pub mod AnswerLaws

@@ -8,3 +8,4 @@ pub mod Opening
 pub mod Seen
 pub mod Operating
 pub mod Evaluating
+pub mod Answering

@@ -110,10 +110,10 @@ fn values_of(
 {
     let mut out = Vec::new(given.alloc);
     for t in ts {
-        let Some(v) = value_of(given, run, env, loc, levels, t)? else {
-            return Ok(None);
-        };
-        out.push(v)?;
+        match value_of(given, run, env, loc, levels, t)? {
+            Some(v) => out.push(v)?,
+            None => return Ok(None),
+        }
     }
     Ok(Some(out))
 }

@@ -5,11 +5,13 @@
 mod converting;
 mod evaluating;
 mod held;
+mod limiting;
 mod opening;
 mod operating;
 
 pub use converting::{plain, shared, shared_all};
 pub use held::{Held, Seen};
+pub use limiting::{Limited, limited_truth, limited_value, shared_value};
 
 ghost use Rattle.tg_eval.specs.Laws.{LimitedIsValue, LimitedWithoutCalls};
 
