@@ -1,3 +1,8 @@
 pub mod LimitedAgrees
 pub mod Laws
 pub mod KnownLimits
+pub mod HeldLaws
+pub mod OperatorLaws
+pub mod OpeningLaws
+pub mod StepLaws
+pub mod AnswerLaws

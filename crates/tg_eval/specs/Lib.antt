@@ -1,2 +1,11 @@
 pub mod Limited
 pub mod Laws
+pub mod Sizes
+pub mod Code
+pub mod Held
+pub mod Falls
+pub mod Opening
+pub mod Seen
+pub mod Operating
+pub mod Evaluating
+pub mod Answering

@@ -2,6 +2,17 @@
 //! functions here have no code, and their contracts are the laws.
 #![tactic(auto)]
 
+mod converting;
+mod evaluating;
+mod held;
+mod limiting;
+mod opening;
+mod operating;
+
+pub use converting::{plain, shared, shared_all};
+pub use held::{Held, Seen};
+pub use limiting::{Limited, limited_truth, limited_value, shared_value};
+
 ghost use Rattle.tg_eval.specs.Laws.{LimitedIsValue, LimitedWithoutCalls};
 
 /// In an accepted theory, where a typed term has a limited value, this is its value: on every table that
