@@ -7,3 +7,6 @@ pub mod Kept
 pub mod Faults
 pub mod Meant
 pub mod KeptLaws
+pub mod Raw
+pub mod Checks
+pub mod Meaning
