@@ -10,3 +10,10 @@ pub mod KeptLaws
 pub mod Raw
 pub mod Checks
 pub mod Meaning
+pub mod Typings
+pub mod Equations
+pub mod Cases
+pub mod Functions
+pub mod Datatypes
+pub mod Programs
+pub mod Theories
