@@ -15,3 +15,4 @@ pub mod KeptWithFunction
 pub mod KeptWithProgram
 pub mod KeptTheories
 pub mod KnownFaults
+pub mod OneAnswer

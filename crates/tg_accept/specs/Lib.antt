@@ -17,3 +17,4 @@ pub mod Functions
 pub mod Datatypes
 pub mod Programs
 pub mod Theories
+pub mod TheoryLaws

@@ -4,6 +4,7 @@
 #![tactic(auto)]
 
 ghost use Rattle.tg_accept.specs.KeptLaws.{NothingIsKept, KeptWithDatatype, KeptWithFunction, KeptWithProgram, KeptWithSpecification, WholeIsAccepted};
+ghost use Rattle.tg_accept.specs.TheoryLaws.{ChecksAreSeparate, NotBoth, OneRefusal, OneTheory};
 ghost use Rattle.tg_accept.specs.Laws.{CoreIsTyped, ResolvedAgain, TypedAgain, TypingsWiden};
 
 /// The core term of a resolved term has its type, in the theory that has the declared function too.
@@ -31,4 +32,13 @@ pub fn growing_theories()
     ensures programs { KeptWithProgram }
     ensures specifications { KeptWithSpecification }
     ensures whole { WholeIsAccepted }
+{}
+
+/// A text that isn't accepted is refused at one declaration for one kind of fault, one that is accepted is
+/// one theory, and none is both.
+pub fn accepted_and_refused()
+    ensures separate { ChecksAreSeparate }
+    ensures one_refusal { OneRefusal }
+    ensures one_theory { OneTheory }
+    ensures never_both { NotBoth }
 {}
