@@ -16,3 +16,4 @@ pub mod KeptWithProgram
 pub mod KeptTheories
 pub mod KnownFaults
 pub mod OneAnswer
+pub mod FunctionTypes
