@@ -17,3 +17,4 @@ pub mod KeptTheories
 pub mod KnownFaults
 pub mod OneAnswer
 pub mod FunctionTypes
+pub mod LeftSides
