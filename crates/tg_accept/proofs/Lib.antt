@@ -18,3 +18,4 @@ pub mod KnownFaults
 pub mod OneAnswer
 pub mod FunctionTypes
 pub mod LeftSides
+pub mod FunctionMeanings

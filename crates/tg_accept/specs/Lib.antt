@@ -18,3 +18,4 @@ pub mod Datatypes
 pub mod Programs
 pub mod Theories
 pub mod TheoryLaws
+pub mod MeantLaws
