@@ -19,3 +19,4 @@ pub mod OneAnswer
 pub mod FunctionTypes
 pub mod LeftSides
 pub mod FunctionMeanings
+pub mod Told
