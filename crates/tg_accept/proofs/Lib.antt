@@ -20,3 +20,4 @@ pub mod FunctionTypes
 pub mod LeftSides
 pub mod FunctionMeanings
 pub mod Told
+pub mod AcceptedTheories

@@ -19,3 +19,4 @@ pub mod Programs
 pub mod Theories
 pub mod TheoryLaws
 pub mod MeantLaws
+pub mod AcceptedLaws

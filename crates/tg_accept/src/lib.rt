@@ -4,6 +4,8 @@
 #![tactic(auto)]
 
 ghost use Rattle.tg_accept.specs.KeptLaws.{NothingIsKept, KeptWithDatatype, KeptWithFunction, KeptWithProgram, KeptWithSpecification, WholeIsAccepted};
+ghost use Rattle.tg_accept.specs.AcceptedLaws.{KeptAfter, TheoryIsAccepted};
+ghost use Rattle.tg_accept.specs.MeantLaws.{DatatypeTold, FunctionIsMeant, FunctionTold, ProgramIsMeant, ProgramTold, SpecificationIsMeant, SpecificationTold};
 ghost use Rattle.tg_accept.specs.TheoryLaws.{ChecksAreSeparate, NotBoth, OneRefusal, OneTheory};
 ghost use Rattle.tg_accept.specs.Laws.{CoreIsTyped, ResolvedAgain, TypedAgain, TypingsWiden};
 
@@ -41,4 +43,22 @@ pub fn accepted_and_refused()
     ensures one_refusal { OneRefusal }
     ensures one_theory { OneTheory }
     ensures never_both { NotBoth }
+{}
+
+/// A declaration that passes the checks before that of its shape, and is written in the right shape, is what
+/// a builder asks for; and what the builder answers tells which of the remaining checks are right.
+pub fn meanings_and_builder()
+    ensures function { FunctionIsMeant }
+    ensures program { ProgramIsMeant }
+    ensures specification { SpecificationIsMeant }
+    ensures datatype_told { DatatypeTold }
+    ensures function_told { FunctionTold }
+    ensures program_told { ProgramTold }
+    ensures specification_told { SpecificationTold }
+{}
+
+/// The theory of an accepted text is an accepted theory.
+pub fn accepted_texts()
+    ensures kept { KeptAfter }
+    ensures accepted { TheoryIsAccepted }
 {}
