@@ -21,3 +21,4 @@ pub mod LeftSides
 pub mod FunctionMeanings
 pub mod Told
 pub mod AcceptedTheories
+pub mod Misnamed

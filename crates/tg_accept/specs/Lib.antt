@@ -20,3 +20,4 @@ pub mod Theories
 pub mod TheoryLaws
 pub mod MeantLaws
 pub mod AcceptedLaws
+pub mod Misnaming
