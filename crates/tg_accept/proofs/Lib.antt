@@ -22,3 +22,4 @@ pub mod FunctionMeanings
 pub mod Told
 pub mod AcceptedTheories
 pub mod Misnamed
+pub mod MisnamedDeclarations

@@ -6,6 +6,7 @@
 ghost use Rattle.tg_accept.specs.KeptLaws.{NothingIsKept, KeptWithDatatype, KeptWithFunction, KeptWithProgram, KeptWithSpecification, WholeIsAccepted};
 ghost use Rattle.tg_accept.specs.AcceptedLaws.{KeptAfter, TheoryIsAccepted};
 ghost use Rattle.tg_accept.specs.MeantLaws.{DatatypeTold, FunctionIsMeant, FunctionTold, ProgramIsMeant, ProgramTold, SpecificationIsMeant, SpecificationTold};
+ghost use Rattle.tg_accept.specs.Misnaming.{DatatypesAreMisnamed, FunctionsAreMisnamed, ProgramsAreMisnamed, SpecificationsAreMisnamed, TermsAreMisnamed};
 ghost use Rattle.tg_accept.specs.TheoryLaws.{ChecksAreSeparate, NotBoth, OneRefusal, OneTheory};
 ghost use Rattle.tg_accept.specs.Laws.{CoreIsTyped, ResolvedAgain, TypedAgain, TypingsWiden};
 
@@ -43,6 +44,15 @@ pub fn accepted_and_refused()
     ensures one_refusal { OneRefusal }
     ensures one_theory { OneTheory }
     ensures never_both { NotBoth }
+{}
+
+/// A term or a declaration has no meaning exactly where a rule of names is broken.
+pub fn misnamed_texts()
+    ensures terms { TermsAreMisnamed }
+    ensures datatypes { DatatypesAreMisnamed }
+    ensures functions { FunctionsAreMisnamed }
+    ensures programs { ProgramsAreMisnamed }
+    ensures specifications { SpecificationsAreMisnamed }
 {}
 
 /// A declaration that passes the checks before that of its shape, and is written in the right shape, is what
