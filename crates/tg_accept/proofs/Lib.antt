@@ -23,3 +23,4 @@ pub mod Told
 pub mod AcceptedTheories
 pub mod Misnamed
 pub mod MisnamedDeclarations
+pub mod StandsFor

@@ -21,3 +21,5 @@ pub mod TheoryLaws
 pub mod MeantLaws
 pub mod AcceptedLaws
 pub mod Misnaming
+pub mod Standing
+pub mod StandingLaws

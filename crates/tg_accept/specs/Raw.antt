@@ -99,3 +99,14 @@ abbrev mutual
   pub branch_nodes : RawBranches → ℕ
   branch_nodes end = 0
   branch_nodes (branch head xs body bs) = nodes body + branch_nodes bs
+
+-- A formula of a certificate: `thyp` marks a test hypothesis, `tested` and `deep` are of terms for the inputs.
+pub data RawFormula : Type 0 where
+  raw_atom : (t : RawTerm) → RawFormula
+  raw_both : (f g : RawFormula) → RawFormula
+  raw_implies : (f g : RawFormula) → RawFormula
+  raw_all : (t : RawType) (f : RawFormula) → RawFormula
+  raw_some : (t : RawType) (f : RawFormula) → RawFormula
+  raw_thyp : (f : RawFormula) → RawFormula
+  raw_tested : (ts : RawTerms) → RawFormula
+  raw_deep : (k : ℕ) (ts : RawTerms) → RawFormula

@@ -7,6 +7,7 @@ ghost use Rattle.tg_accept.specs.KeptLaws.{NothingIsKept, KeptWithDatatype, Kept
 ghost use Rattle.tg_accept.specs.AcceptedLaws.{KeptAfter, TheoryIsAccepted};
 ghost use Rattle.tg_accept.specs.MeantLaws.{DatatypeTold, FunctionIsMeant, FunctionTold, ProgramIsMeant, ProgramTold, SpecificationIsMeant, SpecificationTold};
 ghost use Rattle.tg_accept.specs.Misnaming.{DatatypesAreMisnamed, FunctionsAreMisnamed, ProgramsAreMisnamed, SpecificationsAreMisnamed, TermsAreMisnamed};
+ghost use Rattle.tg_accept.specs.StandingLaws.{FormulaIsWellFormed, OneFormula, OneTerm, OneValue, TermIsTyped};
 ghost use Rattle.tg_accept.specs.TheoryLaws.{ChecksAreSeparate, NotBoth, OneRefusal, OneTheory};
 ghost use Rattle.tg_accept.specs.Laws.{CoreIsTyped, ResolvedAgain, TypedAgain, TypingsWiden};
 
@@ -71,4 +72,14 @@ pub fn meanings_and_builder()
 pub fn accepted_texts()
     ensures kept { KeptAfter }
     ensures accepted { TheoryIsAccepted }
+{}
+
+/// A term or formula of a certificate, or a value of an outcome, stands for one at most, which is well typed
+/// or well formed.
+pub fn certificates_and_outcomes()
+    ensures typed { TermIsTyped }
+    ensures one_term { OneTerm }
+    ensures well_formed { FormulaIsWellFormed }
+    ensures one_formula { OneFormula }
+    ensures one_value { OneValue }
 {}
