@@ -45,6 +45,10 @@ one_for P h (e ∷ es) all c = by (is_for h e.patterns) refl c (λ n. one_for P 
     by true q n rest = (e, all.0, q, refl)
     by false q n rest = rest n
 
+-- the types of the variables of a left side with one constructor pattern
+variables_are : (ts vs us args : List Ty) (k : ℕ) → vs ≡ (take k ts ++ drop (suc k) ts) ++ us → us ≡ args → vs ≡ others ts (suc k) ++ args
+variables_are ts vs us args k e h = e ∙ (ap (λ z. z ++ us) (sym (others_at ts k)) ∙ ap (λ z. others ts (suc k) ++ z) h)
+
 module _ (D : Declared) (m : Meant) where
   abbrev f : Function
   f = m.signature
@@ -82,7 +86,7 @@ module _ (D : Declared) (m : Meant) where
       let owned = opened_at th found.head d us found.arguments is (ap (λ u. opened th found.head u) (sym type) ∙ found.opens) in
       let here : found.arguments ≡ args = second (d, found.arguments) (d, args) (sym owned ∙ (ap (head_at th us) same ∙ head)) in
       let vars : both l ≡ others f.arguments (suc k) ++ args =
-      found.types ∙ (ap (λ z. z ++ found.arguments) (sym (others_at f.arguments k)) ∙ ap (λ z. others f.arguments (suc k) ++ z) here) in
+      variables_are f.arguments (both l) found.arguments args k found.types here in
       let typing : IsTypingOf th (Some f) ps (others f.arguments (suc k) ++ args) [] e.body t.typing =
       subst (λ v. IsTypingOf th (Some f) ps v [] e.body t.typing) vars t.is.2 in
       let u = used D f (body_of D true m) ps (others f.arguments (suc k) ++ args) (count_parameters 1 f.parameters) e.body t.typing [] typing right.0.1.cases.whole in
@@ -114,8 +118,8 @@ module _ (D : Declared) (m : Meant) where
   definition_typed (e ∷ es) t s n p =
       let left = plain_left th 1 e.patterns f.arguments t.0.is.0 p.0 t.0.is.1 in
       let vars : both t.0.is.0 ≡ f.arguments = ap (λ z. z ++ t.0.is.0.1) left.0 ∙ (ap (λ z. f.arguments ++ z) left.1 ∙ append-nil f.arguments) in
-      let typing = subst (λ v. IsTypingOf th None ps v [] e.body t.0.typing) vars t.0.is.2 in
-      let u = plain_is_typed th self ps f.arguments e.body t.0.typing typing s.0.cases.whole in
+      let typing = subst (λ v. IsTypingOf th None [] v [] e.body t.0.typing) vars t.0.is.2 in
+      let u = plain_is_typed th self [] f.arguments e.body t.0.typing typing s.0.cases.whole in
       (u.0, u.1, u.2 ∙ t.0.is.3)
 
 pub function_is_meant : FunctionIsMeant

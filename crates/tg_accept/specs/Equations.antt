@@ -99,9 +99,14 @@ left_types th (matched h xs ∷ ps) (t ∷ ts) =
     (opened th h t)
 left_types th ps ts = None
 
+-- the types at which a function's own equations use it: its type parameters
+abbrev pub own_parameters : Option Function → List Ty
+own_parameters None = []
+own_parameters (Some x) = parameters_from 1 x.parameters
+
 -- A typing of an equation of function `x`: its left side has the declared argument types and its right side the result type, where
 -- the type parameters stand for themselves. `self` is the function where its equations may use it.
 abbrev pub IsEquationTyping : Theory → Option Function → Function → Equation → Typing → Type 0
 IsEquationTyping th self x e d =
     (l : List Ty × List Ty) × (left_types th e.patterns x.arguments ≡ Some l)
-    × IsTypingOf th self (parameters_from 1 x.parameters) (l.0 ++ l.1) [] e.body d × (type_of d ≡ x.answer)
+    × IsTypingOf th self (own_parameters self) (l.0 ++ l.1) [] e.body d × (type_of d ≡ x.answer)
