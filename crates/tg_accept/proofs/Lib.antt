@@ -24,3 +24,4 @@ pub mod AcceptedTheories
 pub mod Misnamed
 pub mod MisnamedDeclarations
 pub mod StandsFor
+pub mod KnownTexts
