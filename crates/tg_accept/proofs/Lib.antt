@@ -25,3 +25,4 @@ pub mod Misnamed
 pub mod MisnamedDeclarations
 pub mod StandsFor
 pub mod KnownTexts
+pub mod KnownShapes
