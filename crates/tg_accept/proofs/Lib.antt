@@ -26,3 +26,4 @@ pub mod MisnamedDeclarations
 pub mod StandsFor
 pub mod KnownTexts
 pub mod KnownShapes
+pub mod KnownPrograms
