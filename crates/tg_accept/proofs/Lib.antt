@@ -27,3 +27,4 @@ pub mod StandsFor
 pub mod KnownTexts
 pub mod KnownShapes
 pub mod KnownPrograms
+pub mod KnownCertificates
