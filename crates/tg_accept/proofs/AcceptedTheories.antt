@@ -1,11 +1,11 @@
 -- The theory of an accepted text is an accepted theory.
-use Rattle.std.proofs.Common.{ℕ, ◌≡◌, Bool, true, false, List, [], ◌∷◌, length, Option, Some, None, refl, sym, subst}
+use Rattle.std.proofs.Common.{◌≡◌, Bool, true, false, List, [], ◌∷◌, length, Option, Some, None, refl, sym, subst}
 use Rattle.std.specs.Option.{option_map_or}
 use Rattle.tg_model.specs.Theory.{Theory, Datatype, Program}
 use Rattle.tg_model.specs.Accepted.{IsAccepted}
-use Rattle.tg_accept.specs.Declared.{Declared, nothing, theory, with_datatype, with_function, with_program, with_specification}
+use Rattle.tg_accept.specs.Declared.{Declared, nothing, with_datatype, with_function, with_program, with_specification}
 use Rattle.tg_accept.specs.Kept.{IsKept}
-use Rattle.tg_accept.specs.Faults.{Fault, name, shape, program, datatype_fault, function_fault, program_fault, specification_fault}
+use Rattle.tg_accept.specs.Faults.{Fault, name, shape, program}
 use Rattle.tg_accept.specs.Resolved.{Resolved}
 use Rattle.tg_accept.specs.Raw as raw
 use Rattle.tg_accept.specs.Raw.{Name, RawType, RawTerm, RawConstructor, RawEquation, RawDeclaration}
@@ -14,7 +14,7 @@ use Rattle.tg_accept.specs.Meaning.{type_variables}
 use Rattle.tg_accept.specs.Datatypes.{datatype_meant}
 use Rattle.tg_accept.specs.Functions.{Meant, function_meant, whole_function, IsFunctionShaped}
 use Rattle.tg_accept.specs.Programs.{program_meant, specification_meant, whole_specification}
-use Rattle.tg_accept.specs.Theories.{datatype_checks, function_checks, program_checks, specification_checks, checks_of, after, IsTheoryOf}
+use Rattle.tg_accept.specs.Theories.{datatype_checks, function_checks, program_checks, specification_checks, after, IsTheoryOf}
 use Rattle.tg_accept.specs.MeantLaws.{Tells, IsFunctionWritten}
 use Rattle.tg_accept.specs.AcceptedLaws.{KeptAfter, TheoryIsAccepted}
 use Rattle.tg_accept.proofs.KeptTheories.{nothing_is_kept, datatypes_keep, functions_keep, programs_keep, specifications_keep, whole_is_accepted}

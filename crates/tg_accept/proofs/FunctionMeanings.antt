@@ -3,22 +3,21 @@ use Rattle.std.proofs.Common.{ℕ, zero, suc, ◌≡◌, ◌+◌, Bool, true, fa
 use Rattle.std.specs.Prelude.{take, drop, unwrap_or}
 use Rattle.std.proofs.lemmas.List.{append-nil}
 use Rattle.std.specs.Option.{option_map_or}
-use Rattle.tg_model.specs.Tree.{Tree}
 use Rattle.tg_model.specs.Types.{Ty, bool}
 use Rattle.tg_model.specs.Theory.{Theory, Function, Program, numbered, datatype_of}
-use Rattle.tg_model.specs.TermTyping.{Typing, IsTyped, IsDatatype, datatype_at, constructor_arguments, type_of}
+use Rattle.tg_model.specs.TermTyping.{IsTyped, IsDatatype, datatype_at, constructor_arguments}
 use Rattle.tg_model.specs.Denotation.{others}
 use Rattle.tg_model.specs.Accepted.{UseThemselves, parameters_from}
 use Rattle.tg_accept.specs.Declared.{Declared, no_program, theory, with_function}
 use Rattle.tg_accept.specs.Meant.{IsBodyTyped, IsSpecificationMeant}
-use Rattle.tg_accept.specs.Resolved.{Head, Resolved}
+use Rattle.tg_accept.specs.Resolved.{Head}
 use Rattle.tg_accept.specs.ResolvedTyping.{head_at, IsTypingOf}
 use Rattle.tg_accept.specs.Core.{core, heads_of}
 use Rattle.tg_accept.specs.Checks.{Each}
 use Rattle.tg_accept.specs.Typings.{HasTyping}
-use Rattle.tg_accept.specs.Equations.{Pattern, Equation, opened, left_types, IsEquationTyping}
-use Rattle.tg_accept.specs.Functions.{Meant, IsTypable, places, place_in, is_for, count_for, side_for, first_side, datatype_at_place, own_number, body_of, whole_function, IsEquationShaped, IsPrimrecWritten, IsDefinitionShaped}
-use Rattle.tg_accept.specs.Programs.{whole_specification, IsSpecificationTyping, IsSpecificationShaped}
+use Rattle.tg_accept.specs.Equations.{Equation, opened, IsEquationTyping}
+use Rattle.tg_accept.specs.Functions.{Meant, IsTypable, places, place_in, is_for, count_for, side_for, first_side, datatype_at_place, own_number, body_of, whole_function, IsEquationShaped, IsPrimrecWritten}
+use Rattle.tg_accept.specs.Programs.{whole_specification}
 use Rattle.tg_accept.specs.MeantLaws.{FunctionIsMeant, ProgramIsMeant, SpecificationIsMeant}
 use Rattle.tg_accept.proofs.Aligned.{second, Aligned, aligned}
 use Rattle.tg_accept.proofs.CoreTypes.{heads_same, plain_is_typed}

@@ -1,8 +1,7 @@
 -- The core term of an equation's right side is typed in the theory that has the function too, and uses it at its own parameters.
-use Rattle.std.proofs.Common.{ℕ, zero, suc, ◌≡◌, ◌<◌, ◌≤◌, Bool, true, false, List, [], ◌∷◌, ◌++◌, map, reverse, length, Some, refl, sym, ◌∙◌, ap, subst, if◌then◌else◌, arith}
+use Rattle.std.proofs.Common.{ℕ, zero, suc, ◌≡◌, Bool, true, false, List, [], ◌∷◌, ◌++◌, map, reverse, length, Some, refl, sym, ◌∙◌, ap, subst, if◌then◌else◌, arith}
 use Rattle.std.proofs.lemmas.Option.{slice_get_within}
 use Rattle.std.specs.Prelude.{slice_get}
-use Rattle.tg_model.specs.Tree as tree
 use Rattle.tg_model.specs.Tree.{Tree}
 use Rattle.tg_model.specs.Types.{Ty}
 use Rattle.tg_model.specs.Theory.{Theory, Function, Body, numbered, instance}
@@ -107,8 +106,7 @@ module _ (D : Declared) (f : Function) (b : Body) (ps vars : List Ty) (count : l
     used (own ts) (instanced us t ds) locs (y, is, same, q, args, each) w =
         let p = all_used ts ds locs each w in
         let e : f ≡ y = cc is in
-        let shown : (length us ≡ f.parameters) = ap (λ (l : List Ty). length l) same ∙ count in
-        (
+        let shown : (length us ≡ f.parameters) = ap (λ (l : List Ty). length l) same ∙ count in (
           instanced us t p.0,
           (whole, last D.functions whole, shown, q ∙ ap (λ (z : Function). instance us z.answer) (sym e), p.2 ∙ (args ∙ ap (λ (z : Function). map (instance us) z.arguments) (sym e)), p.1),
           refl,

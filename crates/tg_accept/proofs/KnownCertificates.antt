@@ -1,12 +1,11 @@
 -- Texts of certificates and outcomes whose meaning is known by hand, in the theory of lists.
-use Rattle.std.proofs.Common.{ℕ, ◌≡◌, Bool, true, false, List, [], ◌∷◌, Option, Some, None, refl, inl, inr}
+use Rattle.std.proofs.Common.{ℕ, ◌≡◌, true, false, [], ◌∷◌, Option, Some, None, refl, inl, inr}
 use Rattle.std.specs.Prelude.{codes}
 use Rattle.tg_model.specs.Tree as tree
 use Rattle.tg_model.specs.Tree.{Tree}
-use Rattle.tg_model.specs.Types.{Ty, nat, bool, tys}
-use Rattle.tg_model.specs.Formula.{atom, all, tested}
-use Rattle.tg_model.specs.Value.{Value, number, made, values}
-use Rattle.tg_model.specs.Theory.{Theory}
+use Rattle.tg_model.specs.Types.{nat, bool}
+use Rattle.tg_model.specs.Formula.{atom, all}
+use Rattle.tg_model.specs.Value.{number, made, values}
 use Rattle.tg_model.specs.TermTyping.{leaf, instanced, compound}
 use Rattle.tg_model.specs.TermTyping as typing
 use Rattle.tg_model.proofs.KnownValues.{sorting, lists, list_of}

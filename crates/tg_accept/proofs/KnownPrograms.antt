@@ -1,12 +1,10 @@
 -- Datatypes, programs and specifications that are refused, with those beside them that are accepted.
-use Rattle.std.proofs.Common.{ℕ, ◌≡◌, Bool, true, false, List, [], ◌∷◌, Option, Some, None, refl, ap, inl, inr, arith}
+use Rattle.std.proofs.Common.{ℕ, ◌≡◌, Bool, true, false, List, [], ◌∷◌, Some, None, refl, ap, inl, inr, arith}
 use Rattle.std.specs.Prelude.{codes, is_some, option_map}
-use Rattle.tg_model.specs.Tree.{Tree, equality}
-use Rattle.tg_model.specs.Tree as tree
 use Rattle.tg_model.specs.Types.{nat, bool, applied, tys}
 use Rattle.tg_model.specs.Theory.{Theory, Datatype}
 use Rattle.tg_model.specs.Accepted.{IsAccepted}
-use Rattle.tg_model.specs.TermTyping.{Typing, leaf, instanced, compound, branching, binding, type_of}
+use Rattle.tg_model.specs.TermTyping.{Typing, leaf, instanced, compound, branching, binding}
 use Rattle.tg_accept.specs.Declared.{Declared, nothing, theory}
 use Rattle.tg_accept.specs.Faults.{each_put}
 use Rattle.tg_accept.specs.Resolved as resolved
@@ -16,12 +14,12 @@ use Rattle.tg_accept.specs.Raw as raw
 use Rattle.tg_accept.specs.Raw.{RawType, natural_type, type_variable, type_word, RawTerm, RawDeclaration}
 use Rattle.tg_accept.specs.Checks as checks
 use Rattle.tg_accept.specs.Checks.{First, Pass, shape}
-use Rattle.tg_accept.specs.Typings.{HasTyping, HasOneTyping}
+use Rattle.tg_accept.specs.Typings.{HasOneTyping}
 use Rattle.tg_accept.specs.Functions.{function_meant}
-use Rattle.tg_accept.specs.Programs.{specification_meant, whole_specification, IsSpecificationTyping, IsForProgram, IsProgramFit}
-use Rattle.tg_accept.specs.Theories.{checks_of, after, IsWhole, IsRefused, IsTheoryOf}
+use Rattle.tg_accept.specs.Programs.{specification_meant, whole_specification, IsSpecificationTyping}
+use Rattle.tg_accept.specs.Theories.{checks_of, after, IsRefused, IsTheoryOf}
 use Rattle.tg_accept.proofs.AcceptedTheories.{theory_is_accepted}
-use Rattle.tg_accept.proofs.KnownTexts.{one, two, word, equals, lets, constructor_of, x, lists, listed, lists_pass, list_of, IsRefusedNext, next}
+use Rattle.tg_accept.proofs.KnownTexts.{one, word, equals, lets, constructor_of, x, lists, lists_pass, list_of, IsRefusedNext, next}
 
 -- ---- datatypes
 
@@ -171,9 +169,34 @@ variable_missing = inr (program_passes, inl (inr (omega arith, inl ((λ s. let q
 second_specification : IsRefused nothing 1 (put_program ∷ always ∷ always ∷ []) 3 checks.program
 second_specification =
     let a = always_passes in
-    inr (program_passes, inr (a, inl (
-    inr (omega arith, inr (record { program = refl; variables = refl }, inr (tt, inr (a.1.1.1.0, inr (a.1.1.1.1.0, inr (record { distinct = ((λ h. h), tt); cases = record { whole = tt; once = tt; distinct = tt } },
-    inl ((λ s. let q = s.first in cc q), refl))))))), refl)))
+    inr (
+      program_passes,
+      inr (
+        a,
+        inl (
+          inr (
+            omega arith,
+            inr (
+              record { program = refl; variables = refl },
+              inr (
+                tt,
+                inr (
+                  a.1.1.1.0,
+                  inr (
+                    a.1.1.1.1.0,
+                    inr (
+                      record { distinct = ((λ h. h), tt); cases = record { whole = tt; once = tt; distinct = tt } },
+                      inl ((λ s. let q = s.first in cc q), refl),
+                    ),
+                  ),
+                ),
+              ),
+            ),
+          ),
+          refl,
+        ),
+      ),
+    )
 
 -- whether program calls are on the variables in order
 abbrev Calls : RawTerm → Bool → Type 0

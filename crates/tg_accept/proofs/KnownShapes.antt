@@ -1,5 +1,5 @@
 -- Functions that are refused for their types or their shape, with those beside them that are accepted.
-use Rattle.std.proofs.Common.{ℕ, ◌≡◌, ◌≤◌, Bool, true, false, List, [], ◌∷◌, ◌++◌, Option, Some, None, refl, sym, ◌∙◌, ap, inl, inr, arith}
+use Rattle.std.proofs.Common.{ℕ, ◌≡◌, Bool, true, false, List, [], ◌∷◌, ◌++◌, Option, Some, None, refl, sym, ◌∙◌, ap, inl, inr, arith}
 use Rattle.std.specs.Prelude.{codes, option_map}
 use Rattle.std.specs.Str.{bytes_eq}
 use Rattle.tg_model.specs.Tree.{equality}
@@ -7,7 +7,7 @@ use Rattle.tg_model.specs.Types.{Ty, nat, bool, applied, tys}
 use Rattle.tg_model.specs.Theory.{Theory, Function}
 use Rattle.tg_model.specs.TermTyping.{Typing, leaf, instanced, compound, branching, binding, type_of}
 use Rattle.tg_model.specs.TermTyping as typing
-use Rattle.tg_accept.specs.Declared.{Declared, theory}
+use Rattle.tg_accept.specs.Declared.{theory}
 use Rattle.tg_accept.specs.Faults.{is_body_shaped}
 use Rattle.tg_accept.specs.Resolved as resolved
 use Rattle.tg_accept.specs.Resolved.{of, zero_head}
@@ -16,11 +16,11 @@ use Rattle.tg_accept.specs.Raw as raw
 use Rattle.tg_accept.specs.Raw.{nodes, RawType, natural_type, truth_type, RawTerm, RawPattern, bare, zero_pattern, bracketed, successor_word, constructor_word, RawEquation, RawDeclaration}
 use Rattle.tg_accept.specs.Checks as checks
 use Rattle.tg_accept.specs.Checks.{ambiguous, shape, Pass}
-use Rattle.tg_accept.specs.Typings.{HasTyping, HasOneTyping, HasTwoTypings}
+use Rattle.tg_accept.specs.Typings.{HasTyping, HasOneTyping}
 use Rattle.tg_accept.specs.Equations.{Pattern, variable, matched, left_types, own_parameters, IsEquationTyping}
-use Rattle.tg_accept.specs.Functions.{Meant, unsaid, function_meant, whole_function, body_of, IsTypable, IsFunctionShaped, IsEquationShaped}
-use Rattle.tg_accept.specs.Theories.{checks_of, IsRefused}
-use Rattle.tg_accept.proofs.KnownTexts.{one, two, word, equals, lets, equation, f, x, xs, lists, listed, list_of, IsRefusedNext, next, numbers_to_numbers, lists_to_numbers, on_numbers, on_lists, empty, filled}
+use Rattle.tg_accept.specs.Functions.{unsaid, function_meant, whole_function, body_of, IsTypable}
+use Rattle.tg_accept.specs.Theories.{checks_of}
+use Rattle.tg_accept.proofs.KnownTexts.{one, two, word, equals, lets, equation, f, x, xs, listed, IsRefusedNext, next, numbers_to_numbers, lists_to_numbers, on_numbers, on_lists, empty, filled}
 
 abbrev th : Theory
 th = theory [] listed
@@ -87,10 +87,13 @@ two_lists =
     next of_empties ambiguous (
     inr (
       (omega arith, tt),
-      inr (tt, inr (
-        record { types = (tt, (tt, tt)); equations = (record { typing = equal_at nat; is = right nat }, tt) },
-        inl (inl (record { typing = equal_at nat; other = equal_at bool; is = right nat; other_is = right bool; differ = λ e. apart (ap first_types e) }), refl),
-      ))
+      inr (
+        tt,
+        inr (
+          record { types = (tt, (tt, tt)); equations = (record { typing = equal_at nat; is = right nat }, tt) },
+          inl (inl (record { typing = equal_at nat; other = equal_at bool; is = right nat; other_is = right bool; differ = λ e. apart (ap first_types e) }), refl),
+        ),
+      ),
     )
     )
   where
@@ -196,10 +199,13 @@ variable_twice =
     next twice shape (
     inr (
       (omega arith, tt),
-      inr (tt, inr (
-        record { types = (tt, (tt, (tt, tt))); equations = (one_has _ one, tt) },
-        inr ((one, tt), inl ((λ s. s.equations.0.distinct.0 (inl refl)), refl)),
-      ))
+      inr (
+        tt,
+        inr (
+          record { types = (tt, (tt, (tt, tt))); equations = (one_has _ one, tt) },
+          inr ((one, tt), inl ((λ s. s.equations.0.distinct.0 (inl refl)), refl)),
+        ),
+      ),
     )
     )
 
@@ -221,10 +227,13 @@ case_missing =
     next one_case shape (
     inr (
       (omega arith, tt),
-      inr (tt, inr (
-        record { types = list_types.types; equations = (one_has _ one, tt) },
-        inr ((one, tt), inl ((λ s. none s.written.covered.1.0), refl)),
-      ))
+      inr (
+        tt,
+        inr (
+          record { types = list_types.types; equations = (one_has _ one, tt) },
+          inr ((one, tt), inl ((λ s. none s.written.covered.1.0), refl)),
+        ),
+      ),
     )
     )
   where

@@ -1,10 +1,10 @@
 -- The types of a left side's variables, where there is no constructor pattern and where there is one.
-use Rattle.std.proofs.Common.{ℕ, zero, suc, ◌≡◌, ◌≤◌, ◌+◌, ◌-◌, Bool, true, false, nat_eq, List, [], ◌∷◌, ◌++◌, length, Option, Some, None, refl, sym, ◌∙◌, ap, subst, if◌then◌else◌, arith}
+use Rattle.std.proofs.Common.{ℕ, zero, suc, ◌≡◌, ◌≤◌, ◌+◌, ◌-◌, Bool, true, false, nat_eq, List, [], ◌∷◌, ◌++◌, length, Option, Some, None, refl, sym, ◌∙◌, ap, if◌then◌else◌, arith}
 use Rattle.std.specs.Prelude.{slice_get, option_map, option_and_then, take, drop}
 use Rattle.std.proofs.lemmas.List.{append-nil}
 use Rattle.std.proofs.lemmas.Bool.{eqb-true}
-use Rattle.tg_model.specs.Types.{Ty, nat, bool, parameter, meta, applied, tys, elements}
-use Rattle.tg_model.specs.Theory.{Theory, numbered, datatype_of}
+use Rattle.tg_model.specs.Types.{Ty}
+use Rattle.tg_model.specs.Theory.{Theory, datatype_of}
 use Rattle.tg_model.specs.TermTyping.{IsDatatype, datatype_at}
 use Rattle.tg_model.specs.Denotation.{others}
 use Rattle.tg_accept.specs.Resolved.{Head}

@@ -1,5 +1,5 @@
 -- A term has no meaning exactly where its names are wrong.
-use Rattle.std.proofs.Common.{ℕ, zero, suc, ◌≡◌, ◌⊎◌, Bool, true, false, not, nat_eq, List, [], ◌∷◌, ◌++◌, map, reverse, length, Option, Some, None, refl, sym, ◌∙◌, ap, subst, inl, inr, if◌then◌else◌}
+use Rattle.std.proofs.Common.{ℕ, suc, ◌≡◌, ◌⊎◌, Bool, true, false, not, nat_eq, List, [], ◌∷◌, ◌++◌, map, reverse, length, Option, Some, None, refl, sym, ◌∙◌, ap, subst, inl, inr, if◌then◌else◌}
 use Rattle.std.specs.Prelude.{◌&&◌, ◌↔◌, option_map, option_and_then}
 use Rattle.std.specs.Option.{option_map_or}
 use Rattle.std.specs.Bool.{Decides}
@@ -15,9 +15,9 @@ use Rattle.tg_accept.specs.Resolved as resolved
 use Rattle.tg_accept.specs.Resolved.{Head, of, Resolved, Resolveds, Branches}
 use Rattle.tg_accept.specs.Raw as raw
 use Rattle.tg_accept.specs.Raw.{Name, Binder, level, RawHead, zero_word, successor_word, constructor_word, RawTerm, RawTerms, RawBranches}
-use Rattle.tg_accept.specs.Meaning.{number_of, names_of_functions, constructor_named, Word, constructor, function, the_program, word_named, head_meant, Scope, taken_names, same_binder, place_of, variable_named, may_bind, may_bind_all, name_of, variable_on, word_on, declared_on, word_meant, datatype_of_first, resolve, resolve_all, resolve_branches}
-use Rattle.tg_accept.specs.Misnaming.{variable_names, usable_names, IsUnknown, IsBadBinder, AreBadBinders, IsNoConstructor, Misnamed, AllMisnamed, BranchesMisnamed, TermsAreMisnamed}
-use Rattle.tg_accept.proofs.Names.{taken_if, not_among, among_left, among_right, among_either}
+use Rattle.tg_accept.specs.Meaning.{number_of, names_of_functions, constructor_named, constructor, function, the_program, word_named, head_meant, Scope, taken_names, same_binder, place_of, variable_named, may_bind, may_bind_all, name_of, variable_on, word_on, declared_on, word_meant, datatype_of_first, resolve, resolve_all, resolve_branches}
+use Rattle.tg_accept.specs.Misnaming.{IsUnknown, IsBadBinder, AreBadBinders, IsNoConstructor, Misnamed, AllMisnamed, BranchesMisnamed, TermsAreMisnamed}
+use Rattle.tg_accept.proofs.Names.{taken_if, among_left, among_right, among_either}
 
 -- ---- what is None exactly where something holds
 
@@ -139,16 +139,16 @@ no_word D x =
     let last = if is_taken x rest then Some the_program else None in
     let middle = option_map_or (λ f. Some (function f)) (number_of x fun) last in (
       λ e p.
-      let a = or_none constructor (number_of x con) middle e in
-      let b = or_none function (number_of x fun) last a.1 in
-      elim (among_either x con (fun ++ rest) p) [
-        | inl q ↦ (not_numbered x con).0 a.0 q
-        | inr q ↦ elim (among_either x fun rest q) [ inl r ↦ (not_numbered x fun).0 b.0 r | inr r ↦ (program_word x rest).0 b.1 r ]
-      ],
+          let a = or_none constructor (number_of x con) middle e in
+          let b = or_none function (number_of x fun) last a.1 in
+          elim (among_either x con (fun ++ rest) p) [
+            | inl q ↦ (not_numbered x con).0 a.0 q
+            | inr q ↦ elim (among_either x fun rest q) [ inl r ↦ (not_numbered x fun).0 b.0 r | inr r ↦ (program_word x rest).0 b.1 r ]
+          ],
       λ n.
-      none_both constructor (number_of x con) middle ((not_numbered x con).1 (λ p. n (among_left x con (fun ++ rest) p)))
-      (none_both function (number_of x fun) last ((not_numbered x fun).1 (λ p. n (among_right x con (fun ++ rest) (among_left x fun rest p))))
-      ((program_word x rest).1 (λ p. n (among_right x con (fun ++ rest) (among_right x fun rest p))))),
+          none_both constructor (number_of x con) middle ((not_numbered x con).1 (λ p. n (among_left x con (fun ++ rest) p)))
+          (none_both function (number_of x fun) last ((not_numbered x fun).1 (λ p. n (among_right x con (fun ++ rest) (among_left x fun rest p))))
+          ((program_word x rest).1 (λ p. n (among_right x con (fun ++ rest) (among_right x fun rest p))))),
     )
 
 not_usable : (D : Declared) (own : List Name) (r : Bool) (x : Name) (us : Resolveds)
@@ -172,17 +172,17 @@ unknown : (S : Scope) (locs : List Binder) (x : Name) (us : Resolveds) → (word
 unknown S locs x us =
     let inner = option_map_or (λ n. Some (variable_on (resolved.free n) us)) (variable_named x S.variables) (declared_on S x us) in (
       λ e.
-      let a = or_none (λ k. variable_on (resolved.bound k) us) (place_of (raw.name x) locs) inner e in
-      let b = or_none (λ n. variable_on (resolved.free n) us) (variable_named x S.variables) (declared_on S x us) a.1 in
-      record {
-        not_bound = (not_placed (raw.name x) locs).0 a.0;
-        no_variable = (no_variable x S.variables).0 b.0;
-        not_declared = (not_usable S.declared S.own S.is_recursive x us).0 b.1;
-      },
+          let a = or_none (λ k. variable_on (resolved.bound k) us) (place_of (raw.name x) locs) inner e in
+          let b = or_none (λ n. variable_on (resolved.free n) us) (variable_named x S.variables) (declared_on S x us) a.1 in
+          record {
+            not_bound = (not_placed (raw.name x) locs).0 a.0;
+            no_variable = (no_variable x S.variables).0 b.0;
+            not_declared = (not_usable S.declared S.own S.is_recursive x us).0 b.1;
+          },
       λ h.
-      none_both (λ k. variable_on (resolved.bound k) us) (place_of (raw.name x) locs) inner ((not_placed (raw.name x) locs).1 h.not_bound)
-      (none_both (λ n. variable_on (resolved.free n) us) (variable_named x S.variables) (declared_on S x us) ((no_variable x S.variables).1 h.no_variable)
-      ((not_usable S.declared S.own S.is_recursive x us).1 h.not_declared)),
+          none_both (λ k. variable_on (resolved.bound k) us) (place_of (raw.name x) locs) inner ((not_placed (raw.name x) locs).1 h.not_bound)
+          (none_both (λ n. variable_on (resolved.free n) us) (variable_named x S.variables) (declared_on S x us) ((no_variable x S.variables).1 h.no_variable)
+          ((not_usable S.declared S.own S.is_recursive x us).1 h.not_declared)),
     )
 
 -- ---- binders and heads

@@ -1,27 +1,26 @@
 -- A declaration has no meaning exactly where its names are wrong.
-use Rattle.std.proofs.Common.{ℕ, suc, ◌≡◌, ◌⊎◌, Bool, true, false, List, [], ◌∷◌, ◌++◌, length, Option, Some, None, refl, sym, ◌∙◌, ap, subst, inl, inr, if◌then◌else◌}
+use Rattle.std.proofs.Common.{ℕ, ◌≡◌, ◌⊎◌, Bool, true, false, List, [], ◌∷◌, ◌++◌, length, Option, Some, None, refl, sym, ◌∙◌, subst, inl, inr, if◌then◌else◌}
 use Rattle.std.specs.Prelude.{◌||◌, ◌↔◌, is_some, option_map, option_and_then}
 use Rattle.std.specs.Option.{option_map_or}
 use Rattle.std.specs.List.{list_any}
 use Rattle.std.specs.Bool.{Decides}
 use Rattle.tg_model.specs.Types as types
 use Rattle.tg_model.specs.Types.{Ty}
-use Rattle.tg_model.specs.Theory.{Constructor, Function}
 use Rattle.tg_model.specs.Accepted.{IsAmong, constructor_names}
 use Rattle.tg_model.proofs.Booleans.{or_cases}
 use Rattle.tg_accept.specs.Declared.{Declared}
 use Rattle.tg_accept.specs.Kept.{names_of_types, names_of_values}
 use Rattle.tg_accept.specs.Faults.{is_taken, first_taken}
-use Rattle.tg_accept.specs.Resolved.{Head, of, Resolved}
+use Rattle.tg_accept.specs.Resolved.{of, Resolved}
 use Rattle.tg_accept.specs.Raw as raw
 use Rattle.tg_accept.specs.Raw.{Name, RawType, RawTypes, natural_type, truth_type, type_variable, type_word, RawPattern, bare, zero_pattern, bracketed, RawEquation, RawConstructor}
 use Rattle.tg_accept.specs.Checks.{Any}
 use Rattle.tg_accept.specs.Meaning.{each_meant, number_of, type_meant, all_types_meant, type_variables, constructor_named, head_meant, Scope, taken_names, resolve}
-use Rattle.tg_accept.specs.Equations.{Pattern, variable, matched, variable_meant, pattern_meant, under, Equation, equation_meant}
-use Rattle.tg_accept.specs.Datatypes.{are_taken, names_in, constructor_meant, datatype_meant}
-use Rattle.tg_accept.specs.Functions.{split_last, signature_of, signature_meant, scope_of, function_meant}
+use Rattle.tg_accept.specs.Equations.{Pattern, variable, matched, pattern_meant, under, Equation, equation_meant}
+use Rattle.tg_accept.specs.Datatypes.{are_taken, names_in, constructor_meant}
+use Rattle.tg_accept.specs.Functions.{split_last, signature_of, signature_meant, scope_of}
 use Rattle.tg_accept.specs.Programs.{specification_scope}
-use Rattle.tg_accept.specs.Misnaming.{TypeMisnamed, TypesMisnamed, IsNoConstructor, Misnamed, PatternMisnamed, SideMisnamed, EquationMisnamed, AreTaken, DatatypeMisnamed, SignatureMisnamed, DatatypesAreMisnamed, FunctionsAreMisnamed, ProgramsAreMisnamed, SpecificationsAreMisnamed}
+use Rattle.tg_accept.specs.Misnaming.{TypeMisnamed, TypesMisnamed, IsNoConstructor, Misnamed, PatternMisnamed, SideMisnamed, EquationMisnamed, AreTaken, SignatureMisnamed, DatatypesAreMisnamed, FunctionsAreMisnamed, ProgramsAreMisnamed, SpecificationsAreMisnamed}
 use Rattle.tg_accept.proofs.LeftSides.{mapped, then_some}
 use Rattle.tg_accept.proofs.Misnamed.{never, map_none, then_none, none_or, taken_decides, not_numbered, no_constructor, misnamed}
 

@@ -1,14 +1,13 @@
 -- One refusal, one theory, and never both.
-use Rattle.std.proofs.Common.{ℕ, suc, ◌≡◌, ◌⊎◌, Bool, true, false, List, [], ◌∷◌, Option, Some, None, sym, ◌∙◌, inl, inr}
-use Rattle.tg_model.specs.Theory.{Theory}
+use Rattle.std.proofs.Common.{suc, ◌≡◌, Bool, true, false, List, [], ◌∷◌, Option, Some, None, sym, ◌∙◌, inl, inr}
 use Rattle.tg_model.specs.TermTyping.{Typing}
 use Rattle.tg_accept.specs.Declared.{Declared}
-use Rattle.tg_accept.specs.Raw.{RawEquation, RawDeclaration, datatype, primrec, definition, program, specification}
+use Rattle.tg_accept.specs.Raw.{RawEquation, datatype, primrec, definition, program, specification}
 use Rattle.tg_accept.specs.Checks.{Kind, Check, First, Pass, AreSeparate, Where, Each, Any}
 use Rattle.tg_accept.specs.Typings.{HasOneTyping, HasTwoTypings}
 use Rattle.tg_accept.specs.Functions.{Meant, function_meant, HasOneTypingEach, HasTwoTypingsSomewhere}
 use Rattle.tg_accept.specs.Programs.{specification_meant, IsSpecificationTyping}
-use Rattle.tg_accept.specs.Theories.{checks_of, after, function_checks, IsRefused, IsTheoryOf}
+use Rattle.tg_accept.specs.Theories.{checks_of, after, function_checks}
 use Rattle.tg_accept.specs.TheoryLaws.{ChecksAreSeparate, OneRefusal, OneTheory, NotBoth}
 
 no_first : (cs : List Check) (k : Kind) → AreSeparate cs → Pass cs → First cs k → ⊥

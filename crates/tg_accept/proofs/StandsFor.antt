@@ -1,16 +1,15 @@
 -- A text stands for one term, formula or value at most, which is well typed.
-use Rattle.std.proofs.Common.{ℕ, ◌≡◌, List, [], ◌∷◌, length, Option, Some, None, refl, sym, ◌∙◌, ap, subst}
+use Rattle.std.proofs.Common.{◌≡◌, List, [], ◌∷◌, Option, Some, None, refl, sym, ◌∙◌, ap, subst}
 use Rattle.tg_model.specs.Tree as tree
 use Rattle.tg_model.specs.Tree.{Tree, Trees}
 use Rattle.tg_model.specs.Types.{Ty, bool}
 use Rattle.tg_model.specs.Formula.{Formula, atom, both, implies, all, some, thyp, tested, deep}
 use Rattle.tg_model.specs.Theory.{Theory}
 use Rattle.tg_model.specs.TermTyping.{IsTyped, AllTyped, IsWellFormed}
-use Rattle.tg_accept.specs.Resolved.{Resolved}
 use Rattle.tg_accept.specs.Core.{core}
 use Rattle.tg_accept.specs.Raw as raw
 use Rattle.tg_accept.specs.Raw.{RawTerms, RawFormula, raw_atom, raw_both, raw_implies, raw_all, raw_some, raw_thyp, raw_tested, raw_deep}
-use Rattle.tg_accept.specs.Standing.{IsTypeOf, IsTermAt, AreTermsAt, IsFormulaAt}
+use Rattle.tg_accept.specs.Standing.{AreTermsAt, IsFormulaAt}
 use Rattle.tg_accept.specs.StandingLaws.{TermIsTyped, OneTerm, FormulaIsWellFormed, OneFormula, OneValue}
 use Rattle.tg_accept.proofs.CoreTypes.{typed}
 

@@ -1,6 +1,6 @@
 -- What the builder's answer on a declaration tells.
-use Rattle.std.proofs.Common.{ℕ, suc, ◌≡◌, Bool, true, false, not, List, [], ◌∷◌, ◌++◌, map, length, Option, Some, None, refl, sym, ◌∙◌, ap, subst, if◌then◌else◌}
-use Rattle.std.specs.Prelude.{◌&&◌, ◌||◌, is_some, unwrap_or, option_map, option_and_then}
+use Rattle.std.proofs.Common.{◌≡◌, Bool, true, false, not, List, [], ◌∷◌, ◌++◌, map, length, Option, Some, None, refl, sym, ◌∙◌, ap, if◌then◌else◌}
+use Rattle.std.specs.Prelude.{◌&&◌, ◌||◌, is_some, unwrap_or, option_and_then}
 use Rattle.std.specs.Option.{option_map_or}
 use Rattle.std.specs.List.{list_any, list_all}
 use Rattle.tg_model.specs.Types.{Ty}
@@ -12,15 +12,13 @@ use Rattle.tg_accept.specs.Declared.{Declared, no_program, theory}
 use Rattle.tg_accept.specs.Kept.{names_of_types, names_of_values}
 use Rattle.tg_accept.specs.Faults as faults
 use Rattle.tg_accept.specs.Faults.{Fault, is_taken, first_taken, is_argument, is_base, is_datatype_shaped, is_body_shaped, from_one_to_eight, has_parameter, each_put, datatype_fault, function_fault, program_fault, specification_fault}
-use Rattle.tg_accept.specs.Resolved.{Resolved}
 use Rattle.tg_accept.specs.Raw.{Name, RawType, RawConstructor}
 use Rattle.tg_accept.specs.Meaning.{each_meant, type_meant, type_variables}
 use Rattle.tg_accept.specs.Datatypes.{are_taken, names_in, constructor_meant, datatype_meant, next_datatype, IsDatatypeShaped}
-use Rattle.tg_accept.specs.Equations.{Equation, equation_meant}
-use Rattle.tg_accept.specs.Functions.{Meant, split_last, signature_of, signature_meant, scope_of, function_meant, body_of, whole_function, IsFunctionShaped, NamesNoProgram, IsPrimrecWritten}
-use Rattle.tg_accept.specs.Programs.{program_meant, IsProgramFit, IsForProgram, whole_specification, IsSpecificationFit}
+use Rattle.tg_accept.specs.Equations.{equation_meant}
+use Rattle.tg_accept.specs.Functions.{Meant, split_last, signature_of, signature_meant, scope_of, body_of, whole_function, IsFunctionShaped, NamesNoProgram}
+use Rattle.tg_accept.specs.Programs.{IsProgramFit, whole_specification, IsSpecificationFit}
 use Rattle.tg_accept.specs.MeantLaws.{Tells, DatatypeTold, FunctionTold, ProgramTold, SpecificationTold, IsFunctionWritten}
-use Rattle.tg_accept.proofs.NoFaults.{not_false}
 use Rattle.tg_accept.proofs.LeftSides.{mapped, then_some}
 
 pub none_if : {A : Type 0} (b : Bool) (o : Option A) (y : A) → (if b then None else o) ≡ Some y → (b ≡ false) × (o ≡ Some y)
@@ -68,8 +66,7 @@ module _ (D : Declared) (x : Name) (params : List Name) (cs : List RawConstructo
   meaning =
       let free = none_if (is_taken x (names_of_types D) || are_taken (names_of_values D) (names_in cs)) _ m is in
       let each = or_false (is_taken x (names_of_types D)) (are_taken (names_of_values D) (names_in cs)) free.0 in
-      let ks = mapped _ (each_meant (constructor_meant params (names_of_types D ++ x ∷ [])) cs) m free.1 in
-      (
+      let ks = mapped _ (each_meant (constructor_meant params (names_of_types D ++ x ∷ [])) cs) m free.1 in (
         each.0,
         not_some (first_taken (names_of_values D) (names_in cs)) each.1,
         ap (λ (y : Datatype). y.name) (sym ks.2),
@@ -159,11 +156,11 @@ specification_told D xs t for = by D.program refl for.program
   where
     by : (o : Option Program) → D.program ≡ o → is_some o ≡ true
         → Tells (option_map_or (λ (p : Program). if is_some D.specification || not (each_put (length p.inputs) (whole_specification D t)) then Some faults.program else None) o (Some faults.program))
-            (Unit {0}) (IsSpecificationFit D t)
+        (Unit {0}) (IsSpecificationFit D t)
     by None e h = cc h
     by (Some p) e h =
         let same : (theory [] D).program ≡ p = ap (λ o. unwrap_or o no_program) e in
         let calls : each_put (length (theory [] D).program.inputs) (whole_specification D t) ≡ each_put (length p.inputs) (whole_specification D t) =
         ap (λ (g : Program). each_put (length g.inputs) (whole_specification D t)) same in
         specification_checks_told (IsSpecificationFit D t) (is_some D.specification) (each_put (length p.inputs) (whole_specification D t))
-            (λ b c. record { first = b; calls = calls ∙ c }) (λ s. (s.first, sym calls ∙ s.calls))
+        (λ b c. record { first = b; calls = calls ∙ c }) (λ s. (s.first, sym calls ∙ s.calls))

@@ -1,5 +1,5 @@
 -- Declarations of datatypes: what they mean, and which of them are right.
-use Rattle.std.specs.Prelude.{ℕ, suc, Bool, true, ◌≡◌, ◌||◌, List, [], ◌∷◌, ◌++◌, map, length, Option, Some, None, option_map, is_some, if◌then◌else◌}
+use Rattle.std.specs.Prelude.{ℕ, suc, Bool, true, ◌≡◌, ◌||◌, List, [], ◌∷◌, ◌++◌, map, length, Option, None, option_map, is_some, if◌then◌else◌}
 use Rattle.std.specs.List.{list_any, list_all}
 use Rattle.tg_model.specs.Theory.{Datatype, Constructor}
 use Rattle.tg_model.specs.Accepted.{AreDistinct}

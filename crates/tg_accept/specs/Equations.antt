@@ -1,16 +1,14 @@
 -- Equations whose words are looked up, and their typings.
-use Rattle.std.specs.Prelude.{ℕ, zero, suc, Bool, not, ◌≡◌, ◌+◌, nat_eq, List, [], ◌∷◌, ◌++◌, reverse, length, Option, Some, None, option_map, option_and_then, if◌then◌else◌}
+use Rattle.std.specs.Prelude.{ℕ, zero, suc, ◌≡◌, ◌+◌, nat_eq, List, [], ◌∷◌, ◌++◌, reverse, length, Option, Some, None, option_map, option_and_then, if◌then◌else◌}
 use Rattle.std.specs.Option.{option_map_or}
 use Rattle.std.specs.List.{list_any}
 use Rattle.tg_model.specs.Types.{Ty, nat, bool, parameter, meta, applied, elements}
 use Rattle.tg_model.specs.Theory.{Theory, Function}
 use Rattle.tg_model.specs.Accepted.{parameters_from}
 use Rattle.tg_model.specs.TermTyping.{Typing, type_of}
-use Rattle.tg_accept.specs.Declared.{Declared}
 use Rattle.tg_accept.specs.Faults.{is_taken}
 use Rattle.tg_accept.specs.Resolved.{Head, zero_head, of, Resolved}
 use Rattle.tg_accept.specs.ResolvedTyping.{head_at, IsTypingOf}
-use Rattle.tg_accept.specs.Raw as raw
 use Rattle.tg_accept.specs.Raw.{Name, RawPattern, bare, zero_pattern, bracketed, RawEquation}
 use Rattle.tg_accept.specs.Meaning.{each_meant, constructor_named, head_meant, Scope, taken_names, resolve}
 

@@ -1,12 +1,11 @@
 -- Declarations of functions: what they mean, and which of them are right.
-use Rattle.std.specs.Prelude.{ℕ, zero, suc, Bool, true, false, ◌≡◌, List, [], ◌∷◌, map, length, Option, Some, None, option_map, option_and_then, if◌then◌else◌, ◌+◌}
+use Rattle.std.specs.Prelude.{ℕ, suc, Bool, true, false, ◌≡◌, List, [], ◌∷◌, map, length, Option, Some, None, option_map, option_and_then, if◌then◌else◌}
 use Rattle.std.specs.Option.{option_map_or}
 use Rattle.std.specs.List.{list_any}
 use Rattle.tg_model.specs.Tree as tree
 use Rattle.tg_model.specs.Tree.{Tree}
 use Rattle.tg_model.specs.Types.{Ty}
-use Rattle.tg_model.specs.Theory.{Theory, Function, Body, plain, recursive, numbered, datatype_of}
-use Rattle.tg_model.specs.TermTyping.{Typing}
+use Rattle.tg_model.specs.Theory.{Function, Body, plain, recursive, numbered, datatype_of}
 use Rattle.tg_model.specs.Calls.{has_call}
 use Rattle.tg_model.specs.Accepted.{AreDistinct, bodies}
 use Rattle.tg_accept.specs.Declared.{Declared, theory}

@@ -1,5 +1,5 @@
 -- What words, types and terms mean among what is declared before. Nothing is asked here but that each word can be looked up.
-use Rattle.std.specs.Prelude.{ℕ, zero, suc, Bool, true, false, not, ◌&&◌, nat_eq, List, [], ◌∷◌, ◌++◌, map, reverse, length, Option, Some, None, option_map, option_and_then, if◌then◌else◌}
+use Rattle.std.specs.Prelude.{ℕ, suc, Bool, true, false, not, ◌&&◌, nat_eq, List, [], ◌∷◌, ◌++◌, map, reverse, length, Option, Some, None, option_map, option_and_then, if◌then◌else◌}
 use Rattle.std.specs.Option.{option_map_or}
 use Rattle.std.specs.Str.{bytes_eq}
 use Rattle.tg_model.specs.Types as types
@@ -7,7 +7,7 @@ use Rattle.tg_model.specs.Types.{Ty, Tys}
 use Rattle.tg_model.specs.Theory.{Function}
 use Rattle.tg_model.specs.Accepted.{constructor_names}
 use Rattle.tg_accept.specs.Declared.{Declared, theory}
-use Rattle.tg_accept.specs.Kept.{names_of_types, names_of_values, name_of_program}
+use Rattle.tg_accept.specs.Kept.{names_of_values, name_of_program}
 use Rattle.tg_accept.specs.Faults.{is_taken}
 use Rattle.tg_accept.specs.Resolved as resolved
 use Rattle.tg_accept.specs.Resolved.{Head, zero_head, successor_head, of, Resolved, Resolveds, Branches}

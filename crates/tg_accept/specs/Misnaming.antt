@@ -1,5 +1,5 @@
 -- What is wrong with the names of a declaration, sentence by sentence.
-use Rattle.std.specs.Prelude.{ℕ, suc, Bool, true, false, ◌≡◌, ◌⊎◌, ◌↔◌, List, [], ◌∷◌, ◌++◌, map, reverse, length, Option, Some, None, if◌then◌else◌}
+use Rattle.std.specs.Prelude.{ℕ, suc, Bool, true, false, ◌≡◌, ◌⊎◌, ◌↔◌, List, [], ◌∷◌, ◌++◌, map, reverse, length, Some, None, if◌then◌else◌}
 use Rattle.tg_model.specs.Accepted.{IsAmong, constructor_names}
 use Rattle.tg_accept.specs.Declared.{Declared}
 use Rattle.tg_accept.specs.Kept.{names_of_types, names_of_values}

@@ -1,5 +1,5 @@
 -- The program and the specification: what their declarations mean, and which of them are right.
-use Rattle.std.specs.Prelude.{ℕ, Bool, true, false, ◌≡◌, List, [], ◌∷◌, reverse, length, Option, Some, None, is_some, option_map, option_and_then, if◌then◌else◌}
+use Rattle.std.specs.Prelude.{ℕ, true, false, ◌≡◌, List, [], ◌∷◌, reverse, length, Option, None, is_some, option_map, option_and_then, if◌then◌else◌}
 use Rattle.std.specs.List.{list_any}
 use Rattle.tg_model.specs.Tree.{Tree}
 use Rattle.tg_model.specs.Types.{Ty, bool}

@@ -9,7 +9,7 @@ use Rattle.tg_model.specs.Value as value
 use Rattle.tg_model.specs.Value.{Value, Values}
 use Rattle.tg_model.specs.Theory.{Theory, IsClosed}
 use Rattle.tg_model.specs.Typing.{HasType}
-use Rattle.tg_model.specs.TermTyping.{Typing, type_of}
+use Rattle.tg_model.specs.TermTyping.{type_of}
 use Rattle.tg_accept.specs.Declared.{Declared}
 use Rattle.tg_accept.specs.Kept.{names_of_types}
 use Rattle.tg_accept.specs.Resolved.{Resolved}
@@ -33,6 +33,11 @@ certificate_scope th = record { declared = declared_in th; own = []; is_recursiv
 abbrev pub levels : ℕ → List Binder
 levels zero = []
 levels (suc n) = level (suc n) ∷ levels n
+
+-- an answer: what a text stands for, and None where it stands for nothing
+abbrev pub IsAnswer : {A : Type 0} → (A → Type 0) → Option A → Type 0
+IsAnswer Is (Some x) = Is x
+IsAnswer Is None = (x : _) → ¬ (Is x)
 
 -- ---- types
 

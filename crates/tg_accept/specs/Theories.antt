@@ -1,12 +1,12 @@
 -- Which theories are accepted, what theory each of them is, and where and how each other one is refused.
-use Rattle.std.specs.Prelude.{ℕ, suc, true, false, ◌≡◌, ◌<◌, ◌≤◌, ◌⊎◌, Bool, List, [], ◌∷◌, length, Option, Some}
+use Rattle.std.specs.Prelude.{ℕ, suc, true, false, ◌≡◌, ◌≤◌, ◌⊎◌, Bool, List, [], ◌∷◌, length, Option, Some}
 use Rattle.std.specs.Option.{option_map_or}
 use Rattle.tg_model.specs.Tree.{Tree}
 use Rattle.tg_model.specs.Theory.{Theory, Datatype, Program}
 use Rattle.tg_accept.specs.Declared.{Declared, theory, with_datatype, with_function, with_program, with_specification}
 use Rattle.tg_accept.specs.Meant.{IsDatatypeMeant}
 use Rattle.tg_accept.specs.Resolved.{Resolved}
-use Rattle.tg_accept.specs.Raw.{Name, RawType, RawTerm, RawConstructor, RawEquation, RawDeclaration, datatype, primrec, definition, program, specification, nodes}
+use Rattle.tg_accept.specs.Raw.{Name, RawType, RawTerm, RawEquation, RawDeclaration, datatype, primrec, definition, program, specification, nodes}
 use Rattle.tg_accept.specs.Checks as checks
 use Rattle.tg_accept.specs.Checks.{Kind, term_size, name, typing, ambiguous, shape, Check, check, First, Pass, Where, Exists, Each}
 use Rattle.tg_accept.specs.Typings.{HasTyping, HasOneTyping, HasTwoTypings}

@@ -1,6 +1,10 @@
-//! What an accepted text is and what it means. So far: terms in which each word is looked up, their typings,
-//! and the core terms that they stand for. `specs/` has the definitions; the functions here have no code,
-//! and their contracts are the laws.
+//! Which theories are accepted, what each of them means, and where and how each other one is refused; and
+//! what terms, formulas and values of certificates and outcomes stand for. `specs/` has the definitions; the
+//! functions here have no code, and their contracts are the laws.
+//!
+//! `Theories` is the page to begin with: the checks of a declaration in their order, over what is declared
+//! before it. Between a term as it is written and a core term stands the resolved term, in which each word
+//! is looked up and nothing else is asked.
 #![tactic(auto)]
 
 ghost use Rattle.tg_accept.specs.KeptLaws.{NothingIsKept, KeptWithDatatype, KeptWithFunction, KeptWithProgram, KeptWithSpecification, WholeIsAccepted};
