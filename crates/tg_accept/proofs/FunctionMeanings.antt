@@ -1,6 +1,6 @@
 -- A function whose equations are typed, and written as they should be, is what the builder asks for.
 use Rattle.std.proofs.Common.{ℕ, zero, suc, ◌≡◌, ◌+◌, Bool, true, false, List, [], ◌∷◌, ◌++◌, map, length, Option, Some, None, refl, sym, ◌∙◌, ap, subst, if◌then◌else◌, arith}
-use Rattle.std.specs.Prelude.{take, drop, unwrap_or}
+use Rattle.std.specs.Prelude.{slice_get, take, drop, unwrap_or}
 use Rattle.std.proofs.lemmas.List.{append-nil}
 use Rattle.std.specs.Option.{option_map_or}
 use Rattle.tg_model.specs.Types.{Ty, bool}
@@ -44,9 +44,20 @@ one_for P h (e ∷ es) all c = by (is_for h e.patterns) refl c (λ n. one_for P 
     by true q n rest = (e, all.0, q, refl)
     by false q n rest = rest n
 
+some_same : {A : Type 0} (o : Option A) (x y : A) → o ≡ Some x → o ≡ Some y → x ≡ y
+some_same o x y e h = let q : Some x ≡ Some y = sym e ∙ h in cc q
+
 -- the types of the variables of a left side with one constructor pattern
 variables_are : (ts vs us args : List Ty) (k : ℕ) → vs ≡ (take k ts ++ drop (suc k) ts) ++ us → us ≡ args → vs ≡ others ts (suc k) ++ args
 variables_are ts vs us args k e h = e ∙ (ap (λ z. z ++ us) (sym (others_at ts k)) ∙ ap (λ z. others ts (suc k) ++ z) h)
+
+-- the types of a constructor's arguments, where it is the one for a head of the datatype
+arguments_are : (th : Theory) (h k : Head) (d : ℕ) (us ts args : List Ty) (t : Ty) → IsDatatype th d us → t ≡ datatype_at d us → opened th k t ≡ Some ts → k ≡ h
+    → head_at th us h ≡ Some (d, args) → ts ≡ args
+arguments_are th h k d us ts args t is type opens same head =
+    let here : opened th k (datatype_at d us) ≡ Some ts = subst (λ u. opened th k u ≡ Some ts) type opens in
+    let owned : head_at th us h ≡ Some (d, ts) = subst (λ j. head_at th us j ≡ Some (d, ts)) same (opened_at th k d us ts is here) in
+    second (d, ts) (d, args) (sym owned ∙ head)
 
 module _ (D : Declared) (m : Meant) where
   abbrev f : Function
@@ -71,21 +82,29 @@ module _ (D : Declared) (m : Meant) where
   abbrev wide : Theory
   wide = theory [] (with_function D (whole_function D true m))
 
+  matching_of : (k : ℕ) (e : Equation) (right : IsRight (suc k) e) → Matching th e.patterns f.arguments right.0.0.is.0 k
+  matching_of k e right =
+      let next : suc k ≡ 1 + k = omega arith in
+      let at : places e.patterns ≡ (1 + k) ∷ [] = subst (λ n. places e.patterns ≡ n ∷ []) next right.1 in
+      matching_left th 1 k e.patterns f.arguments right.0.0.is.0 at right.0.0.is.1
+
+  -- the types of the variables in a case
+  case_variables : (k : ℕ) (h : Head) (args : List Ty) (d : ℕ) (us : List Ty) → numbered f.arguments (suc k) ≡ Some (datatype_at d us) → IsDatatype th d us
+      → (e : Equation) (l : Lefts) → Matching th e.patterns f.arguments l k → is_for h e.patterns ≡ true → head_at th us h ≡ Some (d, args)
+      → both l ≡ others f.arguments (suc k) ++ args
+  case_variables k h args d us at is e l found for_head head =
+      let type : found.type ≡ datatype_at d us = some_same (slice_get f.arguments k) found.type (datatype_at d us) found.at at in
+      let same : found.head ≡ h = heads_same found.head h (subst (λ b. b ≡ true) (found.is_head h) for_head) in
+      let here : found.arguments ≡ args = arguments_are th h found.head d us found.arguments args found.type is type found.opens same head in
+      variables_are f.arguments (both l) found.arguments args k found.types here
+
   case_typed : (place : ℕ) (h : Head) (args : List Ty) (d : ℕ) (us : List Ty) → numbered f.arguments place ≡ Some (datatype_at d us) → IsDatatype th d us
       → (e : Equation) → IsRight place e → is_for h e.patterns ≡ true → head_at th us h ≡ Some (d, args)
       → IsUsed wide self ps (others f.arguments place ++ args) [] (core th self e.body) f.answer
   case_typed zero h args d us at is e right for_head head = cc at
   case_typed (suc k) h args d us at is e right for_head head =
       let t = right.0.0 in
-      let l : Lefts = t.is.0 in
-      let next : suc k ≡ 1 + k = omega arith in
-      let found : Matching th e.patterns f.arguments l k = matching_left th 1 k e.patterns f.arguments l (right.1 ∙ ap (λ n. n ∷ []) next) t.is.1 in
-      let type : found.type ≡ datatype_at d us = (let q : Some found.type ≡ Some (datatype_at d us) = sym found.at ∙ at in cc q) in
-      let same : found.head ≡ h = heads_same found.head h (sym (found.is_head h) ∙ for_head) in
-      let owned = opened_at th found.head d us found.arguments is (ap (λ u. opened th found.head u) (sym type) ∙ found.opens) in
-      let here : found.arguments ≡ args = second (d, found.arguments) (d, args) (sym owned ∙ (ap (head_at th us) same ∙ head)) in
-      let vars : both l ≡ others f.arguments (suc k) ++ args =
-      variables_are f.arguments (both l) found.arguments args k found.types here in
+      let vars = case_variables k h args d us at is e t.is.0 (matching_of k e right) for_head head in
       let typing : IsTypingOf th (Some f) ps (others f.arguments (suc k) ++ args) [] e.body t.typing =
       subst (λ v. IsTypingOf th (Some f) ps v [] e.body t.typing) vars t.is.2 in
       let u = used D f (body_of D true m) ps (others f.arguments (suc k) ++ args) (count_parameters 1 f.parameters) e.body t.typing [] typing right.0.1.cases.whole in

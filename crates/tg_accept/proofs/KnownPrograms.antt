@@ -97,19 +97,19 @@ no_input = next constant_program checks.program (inr (tt, inr ((tt, tt), inl ((�
 -- ---- the specification
 
 -- program put :: nat => nat; and spec x . True; and another specification
-abbrev put_program : RawDeclaration
+abbrev pub put_program : RawDeclaration
 put_program = raw.program (codes "put") (natural_type ∷ natural_type ∷ [])
 
-abbrev always : RawDeclaration
+abbrev pub always : RawDeclaration
 always = raw.specification (x ∷ []) (raw.truth true)
 
-abbrev programmed : Declared
+abbrev pub programmed : Declared
 programmed = after nothing put_program
 
-abbrev specified : Declared
+abbrev pub specified : Declared
 specified = after programmed always
 
-program_passes : Pass (checks_of nothing put_program)
+pub program_passes : Pass (checks_of nothing put_program)
 program_passes = (tt, ((tt, (tt, tt)), (record { first = refl; inputs = refl; closed = refl }, tt)))
 
 truth_typed : HasOneTyping (IsSpecificationTyping programmed (resolved.truth true))
@@ -122,7 +122,7 @@ truth_typed = record { typing = leaf bool; is = (refl, refl); only = λ d is. al
     alone (branching us t d arms) is = absurd is
     alone (binding u t d e) is = absurd is
 
-always_passes : Pass (checks_of programmed always)
+pub always_passes : Pass (checks_of programmed always)
 always_passes = (
   omega arith,
   (

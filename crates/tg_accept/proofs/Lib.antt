@@ -28,3 +28,4 @@ pub mod KnownTexts
 pub mod KnownShapes
 pub mod KnownPrograms
 pub mod KnownCertificates
+pub mod KnownOrders

@@ -5,7 +5,7 @@ use Rattle.tg_model.specs.Tree.{Tree, Trees}
 use Rattle.tg_model.specs.Types.{Ty, bool}
 use Rattle.tg_model.specs.Formula.{Formula, atom, both, implies, all, some, thyp, tested, deep}
 use Rattle.tg_model.specs.Theory.{Theory}
-use Rattle.tg_model.specs.TermTyping.{IsTyped, AllTyped, IsWellFormed}
+use Rattle.tg_model.specs.TermTyping.{type_of, IsTyped, AllTyped, IsWellFormed}
 use Rattle.tg_accept.specs.Core.{core}
 use Rattle.tg_accept.specs.Raw as raw
 use Rattle.tg_accept.specs.Raw.{RawTerms, RawFormula, raw_atom, raw_both, raw_implies, raw_all, raw_some, raw_thyp, raw_tested, raw_deep}
@@ -20,7 +20,7 @@ pub term_is_typed : TermIsTyped
 term_is_typed th vars locs u r t is =
     let d = is.right.typed in
     let k = typed th 0 None [] vars (λ y e. cc e) is.resolved d.typing locs d.is.0 is.right.whole in
-    subst (λ s. IsTyped th vars locs s u) (sym is.same) (k.0, k.1, k.2 ∙ d.is.1)
+    subst (λ s. IsTyped th vars locs s u) (sym is.same) (k.0, k.1, subst (λ v. type_of k.0 ≡ v) d.is.1 k.2)
 
 pub one_term : OneTerm
 one_term th vars locs u v r t s a b = a.same ∙ (ap (core th 0) (some_same _ a.resolved b.resolved a.is b.is) ∙ sym b.same)

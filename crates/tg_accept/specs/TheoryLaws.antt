@@ -11,7 +11,8 @@ abbrev pub ChecksAreSeparate : Type 0
 ChecksAreSeparate = (D : Declared) (x : RawDeclaration) → AreSeparate (checks_of D x)
 
 abbrev pub OneRefusal : Type 0
-OneRefusal = (D : Declared) (n : ℕ) (xs : List RawDeclaration) (p q : ℕ) (k l : Kind) → IsRefused D n xs p k → IsRefused D n xs q l → (p ≡ q) × (k ≡ l)
+OneRefusal = (D : Declared) (n : ℕ) (xs : List RawDeclaration) (p q : ℕ) (k l : Kind)
+    → IsRefused D n xs p k → IsRefused D n xs q l → (p ≡ q) × (k ≡ l)
 
 abbrev pub OneTheory : Type 0
 OneTheory = (x : List ℕ) (D : Declared) (xs : List RawDeclaration) (th other : Theory) → IsTheoryOf x D xs th → IsTheoryOf x D xs other → th ≡ other
