@@ -114,7 +114,7 @@ two_lists =
 -- ---- the only typing
 
 -- of a right side that is a number
-number_typed : (self : Option Function) (g : Function) (h : List ℕ) (ps : List Pattern) (n : ℕ) (l : List Ty × List Ty) → left_types th ps g.arguments ≡ Some l
+pub number_typed : (self : Option Function) (g : Function) (h : List ℕ) (ps : List Pattern) (n : ℕ) (l : List Ty × List Ty) → left_types th ps g.arguments ≡ Some l
     → g.answer ≡ nat → HasOneTyping (IsEquationTyping th self g (record { head = h; patterns = ps; body = resolved.literal n }))
 number_typed self g h ps n l left answer = record { typing = leaf nat; is = (l, left, refl, sym answer); only = λ d is. alone d is.0 is.2 }
   where
@@ -125,7 +125,7 @@ number_typed self g h ps n l left answer = record { typing = leaf nat; is = (l, 
     alone (branching us t d arms) k is = absurd is
     alone (binding u t d e) k is = absurd is
 
-one_has : (Is : Typing → Type 0) → HasOneTyping Is → HasTyping Is
+pub one_has : (Is : Typing → Type 0) → HasOneTyping Is → HasTyping Is
 one_has Is one = record { typing = one.typing; is = one.is }
 
 -- ---- equations as they are written
@@ -211,10 +211,10 @@ variable_twice =
 
 -- ---- primitive recursion
 
-abbrev lengths : Function
+abbrev pub lengths : Function
 lengths = record { name = f; parameters = 0; arguments = applied 1 (tys (nat ∷ [])) ∷ []; answer = nat; body = unsaid }
 
-abbrev list_types : IsTypable listed true (record { signature = lengths; equations = [] })
+abbrev pub list_types : IsTypable listed true (record { signature = lengths; equations = [] })
 list_types = record { types = (tt, (((omega arith, (_, refl, refl)), (tt, tt)), tt)); equations = tt }
 
 -- primrec f :: nat list => nat where f Nil = 0;
@@ -244,7 +244,7 @@ case_missing =
 abbrev filled_zero : RawEquation
 filled_zero = equation f (filled x xs ∷ []) (raw.number 0)
 
-abbrev empty_zero : RawEquation
+abbrev pub empty_zero : RawEquation
 empty_zero = equation f (empty ∷ []) (raw.number 0)
 
 cases_accepted : Pass (checks_of listed (on_lists filled_zero empty_zero))

@@ -29,3 +29,4 @@ pub mod KnownShapes
 pub mod KnownPrograms
 pub mod KnownCertificates
 pub mod KnownOrders
+pub mod KnownRecursion
