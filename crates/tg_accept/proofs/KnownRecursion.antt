@@ -152,3 +152,57 @@ first_of a b c d e = cc e
 
 second_of : (a b c d : Ty) → a ∷ b ∷ [] ≡ c ∷ d ∷ [] → b ≡ d
 second_of a b c d e = cc e
+
+whole_typed : HasOneTyping (of_filled on_whole)
+whole_typed = record {
+  typing = whole_typing;
+  is = (
+    ([], nat ∷ lists_of_numbers ∷ []),
+    refl,
+    (lengths, refl, refl, refl, refl, ((_, refl, (_, refl, refl), refl, refl, (refl, (refl, tt))), tt)),
+    refl,
+  );
+  only = alone;
+}
+  where
+    inner : (s : Ty) → s ≡ lists_of_numbers → (e : Typing)
+        → (vars : List Ty) → IsTypingOf th (Some lengths) [] vars [] (resolved.con 2 (resolved.more (resolved.free 1) (resolved.more (resolved.free 2) resolved.none))) e
+        → type_of e ≡ s → e ≡ instanced (nat ∷ []) lists_of_numbers (typing.more (leaf nat) (typing.more (leaf lists_of_numbers) typing.none))
+    inner s is (instanced vs u (typing.more (leaf a) (typing.more (leaf b) typing.none))) vars (o, at, count, same, args, each) q =
+        let p : vs ≡ nat ∷ [] = cons_of o vs u at same (q ∙ is) in
+        let r = cons_arguments o vs a b at p args in
+        let v : a ≡ nat = first_of a b nat lists_of_numbers r in
+        let w : b ≡ lists_of_numbers = second_of a b nat lists_of_numbers r in
+        let t : u ≡ lists_of_numbers = q ∙ is in
+        λ i. instanced (p i) (t i) (typing.more (leaf (v i)) (typing.more (leaf (w i)) typing.none))
+    inner s is (instanced vs u (typing.more (leaf a) (typing.more (leaf b) (typing.more d ds)))) vars (o, at, count, same, args, each) q = absurd each.1.1
+    inner s is (instanced vs u (typing.more (leaf a) (typing.more d ds))) vars (o, at, count, same, args, each) q = absurd each.1.0
+    inner s is (instanced vs u (typing.more (leaf a) typing.none)) vars (o, at, count, same, args, each) q = absurd each.1
+    inner s is (instanced vs u (typing.more d ds)) vars (o, at, count, same, args, each) q = absurd each.0
+    inner s is (instanced vs u typing.none) vars (o, at, count, same, args, each) q = absurd each
+    inner s is e vars h q = absurd h
+
+    alone : (d : Typing) → of_filled on_whole d → d ≡ whole_typing
+    alone (instanced us t (typing.more e typing.none)) (l, left, (y, is, own, answer, args, each), q) =
+        let b = answer_of y us is t answer in
+        let c = argument_of y us is (type_of e) args in
+        let r = inner (type_of e) c e (l.0 ++ l.1) each.0 refl in λ i. instanced (own i) (b i) (typing.more (r i) typing.none)
+    alone (instanced us t (typing.more e (typing.more d ds))) (l, left, (y, is, own, answer, args, each), q) = absurd each.1
+    alone (instanced us t typing.none) (l, left, (y, is, own, answer, args, each), q) = absurd each
+    alone d h = absurd h.2
+
+abbrev filled_whole : RawEquation
+filled_whole = equation f (filled x xs ∷ []) (raw.word f (one (raw.word (codes "Cons") (two (word x) (word xs)))))
+
+whole_argument : IsRefusedNext (on_lists empty_zero filled_whole) shape
+whole_argument =
+    let none = number_typed (Some lengths) lengths f (matched (of 1) [] ∷ []) 0 ([], []) refl refl in
+    next (on_lists empty_zero filled_whole) shape (
+    inr (
+      (omega arith, (omega arith, tt)),
+      inr (tt, inr (
+        record { types = list_types.types; equations = (one_has _ none, (one_has _ whole_typed, tt)) },
+        inr ((none, (whole_typed, tt)), inl ((λ s. let q = s.lower in cc q), refl)),
+      ))
+    )
+    )
