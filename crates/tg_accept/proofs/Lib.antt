@@ -30,3 +30,4 @@ pub mod KnownPrograms
 pub mod KnownCertificates
 pub mod KnownOrders
 pub mod KnownRecursion
+pub mod FitTerms

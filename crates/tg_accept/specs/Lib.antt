@@ -23,3 +23,4 @@ pub mod AcceptedLaws
 pub mod Misnaming
 pub mod Standing
 pub mod StandingLaws
+pub mod Uses
