@@ -1,5 +1,5 @@
 -- The core term of a typed resolved term is typed: its branches are put in the order of the constructors.
-use Rattle.std.proofs.Common.{ℕ, ◌≡◌, Bool, true, false, List, [], ◌∷◌, ◌++◌, reverse, length, Some, refl, sym, ◌∙◌, ap, subst, if◌then◌else◌}
+use Rattle.std.proofs.Common.{ℕ, ◌≡◌, Bool, true, false, List, [], ◌∷◌, ◌++◌, reverse, length, Option, Some, None, refl, sym, ◌∙◌, ap, subst, if◌then◌else◌}
 use Rattle.std.proofs.lemmas.Bool.{eqb-true}
 use Rattle.tg_model.specs.Types.{Ty}
 use Rattle.tg_model.specs.Theory.{Theory, Function, numbered}
@@ -11,7 +11,7 @@ use Rattle.tg_accept.specs.Core.{same_head, heads_of, Written, branch_of, arrang
 use Rattle.tg_accept.specs.Laws.{CoreIsTyped}
 use Rattle.tg_accept.proofs.Aligned.{second, Aligned, aligned}
 
-heads_same : (a b : Head) → same_head a b ≡ true → a ≡ b
+pub heads_same : (a b : Head) → same_head a b ≡ true → a ≡ b
 heads_same zero_head zero_head e = refl
 heads_same successor_head successor_head e = refl
 heads_same (of c) (of d) e = ap of (eqb-true c d e)
@@ -60,7 +60,9 @@ module _ (th : Theory) (vars : List Ty) (n : ℕ) (us : List Ty) (u : Ty) (locs 
       let others = arranged_typed ws hs rest fit found.1 a.1 in
       (arm args body.0 others.0, (f.2 ∙ ap (λ (ts : List Ty). length ts) same, refl, body.1, body.2, others.1))
 
-module _ (th : Theory) (self : ℕ) (x : Function) (ps vars : List Ty) (is_self : numbered th.functions self ≡ Some x) (count : length ps ≡ x.parameters) where
+-- `by_itself` is the function that is being declared, where the term may call it
+module _ (th : Theory) (self : ℕ) (by_itself : Option Function) (ps vars : List Ty)
+    (is_self : (x : Function) → by_itself ≡ Some x → (numbered th.functions self ≡ Some x) × (length ps ≡ x.parameters)) where
   found_written : (h : Head) (bs : Branches) → is_found (written th self bs) h ≡ has_branch h bs
   found_written h resolved.end = refl
   found_written h (branch head xs body bs) = ap (λ b. if same_head head h then true else b) (found_written h bs)
@@ -70,13 +72,11 @@ module _ (th : Theory) (self : ℕ) (x : Function) (ps vars : List Ty) (is_self 
   all_found n us u locs [] bs h = tt
   all_found n us u locs (k ∷ hs) bs h = (found_written k bs ∙ h.0, all_found n us u locs hs bs h.1)
 
-  own_count : (y : Function) (us : List Ty) → Some x ≡ Some y → us ≡ ps → (numbered th.functions self ≡ Some y) × (length us ≡ y.parameters)
-  own_count y us e p =
-      let same : x ≡ y = cc e in
-      (is_self ∙ e, ap (λ (l : List Ty). length l) p ∙ (count ∙ ap (λ (z : Function). z.parameters) same))
+  own_count : (y : Function) (us : List Ty) → by_itself ≡ Some y → us ≡ ps → (numbered th.functions self ≡ Some y) × (length us ≡ y.parameters)
+  own_count y us e p = ((is_self y e).0, ap (λ (l : List Ty). length l) p ∙ (is_self y e).1)
 
   mutual
-    typed : (t : Resolved) (d : Typing) (locs : List Ty) → IsTypingOf th (Some x) ps vars locs t d → EachCaseWhole th t
+    pub typed : (t : Resolved) (d : Typing) (locs : List Ty) → IsTypingOf th by_itself ps vars locs t d → EachCaseWhole th t
         → IsTyped th vars locs (core th self t) (type_of d)
     typed (bound k) (leaf t) locs h w = (leaf t, h, refl)
     typed (free n) (leaf t) locs h w = (leaf t, h, refl)
@@ -105,7 +105,7 @@ module _ (th : Theory) (self : ℕ) (x : Function) (ps vars : List Ty) (is_self 
         (branching us u scrutinee.0 arms.0, (is, scrutinee.2 ∙ e, scrutinee.1, arms.1), refl)
     typed t d locs h w = absurd h
 
-    all_typed : (ts : Resolveds) (ds : Typings) (locs : List Ty) → AreTypingsOf th (Some x) ps vars locs ts ds → EachCasesWhole th ts
+    all_typed : (ts : Resolveds) (ds : Typings) (locs : List Ty) → AreTypingsOf th by_itself ps vars locs ts ds → EachCasesWhole th ts
         → (es : Typings) × AreTypings th vars locs (cores th self ts) es × (types_of es ≡ types_of ds)
     all_typed resolved.none none locs h w = (none, tt, refl)
     all_typed resolved.none (more d ds) locs h w = absurd h
@@ -115,7 +115,7 @@ module _ (th : Theory) (self : ℕ) (x : Function) (ps vars : List Ty) (is_self 
         let q = all_typed ts ds locs h.1 w.1 in
         (more p.0 q.0, (p.1, q.1), λ i. p.2 i ∷ q.2 i)
 
-    all_fit : (bs : Branches) (ds : ArmTypings) (n : ℕ) (us : List Ty) (u : Ty) (locs : List Ty) → AreBranchTypings th (Some x) ps vars locs n us u bs ds
+    all_fit : (bs : Branches) (ds : ArmTypings) (n : ℕ) (us : List Ty) (u : Ty) (locs : List Ty) → AreBranchTypings th by_itself ps vars locs n us u bs ds
         → EachBranchWhole th bs → AllFit th vars n us u locs (written th self bs)
     all_fit resolved.end ds n us u locs h w = tt
     all_fit (branch head xs body bs) end n us u locs h w = absurd h
@@ -124,4 +124,10 @@ module _ (th : Theory) (self : ℕ) (x : Function) (ps vars : List Ty) (is_self 
         ((ts, at, long, (b.0, b.1, b.2 ∙ q)), all_fit bs ds n us u locs others w.1)
 
 pub core_is_typed : CoreIsTyped
-core_is_typed th self x ps vars locs t d is count h w = typed th self x ps vars is count t d locs h w
+core_is_typed th self x ps vars locs t d is count h w =
+    typed th self (Some x) ps vars (λ y e. let same : x ≡ y = cc e in (is ∙ e, count ∙ ap (λ (z : Function). z.parameters) same)) t d locs h w
+
+-- the core term of a term in which no function is being declared
+pub plain_is_typed : (th : Theory) (self : ℕ) (ps vars : List Ty) (t : Resolved) (d : Typing) → IsTypingOf th None ps vars [] t d → EachCaseWhole th t
+    → IsTyped th vars [] (core th self t) (type_of d)
+plain_is_typed th self ps vars t d h w = typed th self None ps vars (λ y e. cc e) t d [] h w

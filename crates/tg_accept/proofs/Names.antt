@@ -9,7 +9,7 @@ use Rattle.tg_accept.specs.Faults.{is_taken, first_taken}
 abbrev Name : Type 0
 Name = List ℕ
 
-taken_if : (x : Name) (ys : List Name) → IsAmong x ys → is_taken x ys ≡ true
+pub taken_if : (x : Name) (ys : List Name) → IsAmong x ys → is_taken x ys ≡ true
 taken_if x [] h = absurd h
 taken_if x (y ∷ ys) (inl e) = or_left (bytes_eq x y) (is_taken x ys) ((bytes_eq-Decides x y).1 e)
 taken_if x (y ∷ ys) (inr h) = or_right (bytes_eq x y) (is_taken x ys) (taken_if x ys h)
@@ -17,16 +17,16 @@ taken_if x (y ∷ ys) (inr h) = or_right (bytes_eq x y) (is_taken x ys) (taken_i
 pub not_among : (x : Name) (ys : List Name) → is_taken x ys ≡ false → ¬ (IsAmong x ys)
 not_among x ys e h = let q : true ≡ false = sym (taken_if x ys h) ∙ e in cc q
 
-among_left : (x : Name) (xs ys : List Name) → IsAmong x xs → IsAmong x (xs ++ ys)
+pub among_left : (x : Name) (xs ys : List Name) → IsAmong x xs → IsAmong x (xs ++ ys)
 among_left x [] ys h = absurd h
 among_left x (y ∷ xs) ys (inl e) = inl e
 among_left x (y ∷ xs) ys (inr h) = inr (among_left x xs ys h)
 
-among_right : (x : Name) (xs ys : List Name) → IsAmong x ys → IsAmong x (xs ++ ys)
+pub among_right : (x : Name) (xs ys : List Name) → IsAmong x ys → IsAmong x (xs ++ ys)
 among_right x [] ys h = h
 among_right x (y ∷ xs) ys h = inr (among_right x xs ys h)
 
-among_either : (x : Name) (xs ys : List Name) → IsAmong x (xs ++ ys) → IsAmong x xs ⊎ IsAmong x ys
+pub among_either : (x : Name) (xs ys : List Name) → IsAmong x (xs ++ ys) → IsAmong x xs ⊎ IsAmong x ys
 among_either x [] ys h = inr h
 among_either x (y ∷ xs) ys (inl e) = inl (inl e)
 among_either x (y ∷ xs) ys (inr h) = elim (among_either x xs ys h) [ inl p ↦ inl (inr p) | inr p ↦ inr p ]
