@@ -31,3 +31,5 @@ pub mod KnownCertificates
 pub mod KnownOrders
 pub mod KnownRecursion
 pub mod FitTerms
+pub mod SameBranches
+pub mod SameCalls
