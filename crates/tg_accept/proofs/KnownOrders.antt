@@ -118,7 +118,7 @@ program_in_definition =
           one_equation = refl;
           no_pattern = (refl, tt);
         },
-        inl ((λ e. let q = e in cc q), refl),
+        inl ((λ e. let q = e.0 in cc q), refl),
       )),
     ))), refl))
 

@@ -131,7 +131,7 @@ always_passes = (
       tt,
       (
         record { typing = truth_typed.typing; is = truth_typed.is },
-        (truth_typed, (record { distinct = ((λ h. h), tt); cases = record { whole = tt; once = tt; distinct = tt } }, (record { first = refl; calls = refl }, tt))),
+        (truth_typed, (record { distinct = ((λ h. h), tt); cases = record { whole = tt; once = tt; distinct = tt } }, (record { first = refl; calls = tt }, tt))),
       ),
     ),
   ),

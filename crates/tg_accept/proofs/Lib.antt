@@ -33,3 +33,6 @@ pub mod KnownRecursion
 pub mod FitTerms
 pub mod SameBranches
 pub mod SameCalls
+pub mod FunctionShapes
+pub mod FunctionAnswers
+pub mod InputCalls

@@ -12,7 +12,7 @@ use Rattle.tg_accept.specs.Cases.{heads_in}
 use Rattle.tg_accept.proofs.CoreTypes.{heads_same}
 use Rattle.tg_accept.proofs.FitTerms.{AreAmong}
 
-same_itself : (h : Head) → same_head h h ≡ true
+pub same_itself : (h : Head) → same_head h h ≡ true
 same_itself zero_head = refl
 same_itself successor_head = refl
 same_itself (of c) = (Decides-eqb c c).1 refl
