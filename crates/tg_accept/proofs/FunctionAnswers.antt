@@ -29,16 +29,8 @@ use Rattle.tg_accept.proofs.LeftSides.{Lefts, places_above, Matching, counted, o
 use Rattle.tg_accept.proofs.FunctionMeanings.{IsRight, matching_of, two_of}
 use Rattle.tg_accept.proofs.FitTerms.{IsFit, fit, head_among}
 use Rattle.tg_accept.proofs.SameBranches.{same_itself}
-use Rattle.tg_accept.proofs.SameCalls.{call_free, free_call, use_good, good_use}
+use Rattle.tg_accept.proofs.SameCalls.{both_true, both_false, call_free, free_call, use_good, good_use}
 use Rattle.tg_accept.proofs.FunctionShapes.{HasHead, by_heads, by_equations, AreFlags, flags_at, type_at, own_smaller, smaller_own, other_lower}
-
-both_true : (a b : Bool) → a ≡ true → b ≡ true → (a && b) ≡ true
-both_true true b e f = f
-both_true false b e f = cc e
-
-both_false : (a b : Bool) → a ≡ false → b ≡ false → (a || b) ≡ false
-both_false true b e f = cc e
-both_false false b e f = f
 
 -- a left side has one head
 one_head : (h k : Head) (ps : List Pattern) → is_for h ps ≡ true → is_for k ps ≡ true → h ≡ k

@@ -30,7 +30,7 @@ use Rattle.tg_accept.specs.Functions.{is_for, count_for, side_for, recursive_fla
 use Rattle.tg_accept.proofs.KeptTypes.{numbered_before, elements_tys}
 use Rattle.tg_accept.proofs.CoreTypes.{heads_same}
 use Rattle.tg_accept.proofs.FunctionMeanings.{one_for}
-use Rattle.tg_accept.proofs.SameCalls.{use_good, good_use}
+use Rattle.tg_accept.proofs.SameCalls.{both_true}
 use Rattle.tg_accept.proofs.FitTerms.{IsFit}
 
 -- ---- right sides by heads, and by equations
@@ -156,10 +156,6 @@ pub record IsSmaller (place start : ℕ) (flags : List Bool) (ts : Resolveds) : 
 some_true : (o : Option Bool) → unwrap_or o false ≡ true → o ≡ Some true
 some_true None e = cc e
 some_true (Some b) e = ap Some e
-
-both_true : (a b : Bool) → a ≡ true → b ≡ true → (a && b) ≡ true
-both_true true b e f = f
-both_true false b e f = cc e
 
 module _ (th : Theory) (self place start : ℕ) (flags : List Bool) where
   terms_core : (ts : Resolveds) → elements (cores th self ts) ≡ map (core th self) (terms_in ts)

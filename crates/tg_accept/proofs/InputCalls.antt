@@ -11,10 +11,7 @@ use Rattle.tg_accept.specs.Resolved as resolved
 use Rattle.tg_accept.specs.Resolved.{Resolved, Resolveds}
 use Rattle.tg_accept.specs.Core.{core, cores}
 use Rattle.tg_accept.specs.Uses.{variables_on}
-
-both_true : (a b : Bool) → a ≡ true → b ≡ true → (a && b) ≡ true
-both_true true b e f = f
-both_true false b e f = cc e
+use Rattle.tg_accept.proofs.SameCalls.{both_true}
 
 module _ (th : Theory) (self : ℕ) where
   variable_core : (n : ℕ) (t : Resolved) → is_variable n (core th self t) ≡ true → t ≡ resolved.free n

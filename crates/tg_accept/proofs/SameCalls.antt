@@ -14,11 +14,11 @@ use Rattle.tg_accept.specs.Uses.{EachOwnUse, EachOwnUses, EachOwnUseIn, EachProg
 use Rattle.tg_accept.proofs.FitTerms.{IsFit, AreFit, BranchesFit}
 use Rattle.tg_accept.proofs.SameBranches.{AllWritten, EachHead, all_chosen, branches_back}
 
-both_false : (a b : Bool) → a ≡ false → b ≡ false → (a || b) ≡ false
+pub both_false : (a b : Bool) → a ≡ false → b ≡ false → (a || b) ≡ false
 both_false true b e f = cc e
 both_false false b e f = f
 
-both_true : (a b : Bool) → a ≡ true → b ≡ true → (a && b) ≡ true
+pub both_true : (a b : Bool) → a ≡ true → b ≡ true → (a && b) ≡ true
 both_true true b e f = f
 both_true false b e f = cc e
 
