@@ -1,10 +1,10 @@
 -- Where a function is typed and written as it should be, its body is shaped, and calls no program, exactly where its equations are
 -- and don't.
-use Rattle.std.proofs.Common.{ℕ, zero, suc, ◌≡◌, ◌≤◌, ◌+◌, Bool, true, false, List, [], ◌∷◌, ◌++◌, map, length, Option, Some, None, refl, sym, ◌∙◌, ap, subst, inl, inr, arith}
-use Rattle.std.specs.Prelude.{◌&&◌, ◌||◌, ◌↔◌, slice_get, take, drop}
+use Rattle.std.proofs.Common.{ℕ, zero, suc, ◌≡◌, ◌≤◌, ◌+◌, Bool, true, false, List, [], ◌∷◌, ◌++◌, map, length, Some, None, refl, sym, ◌∙◌, ap, subst, arith}
+use Rattle.std.specs.Prelude.{◌↔◌, slice_get, take, drop}
 use Rattle.std.specs.Option.{option_map_or}
 use Rattle.std.specs.List.{list_any}
-use Rattle.tg_model.specs.Tree.{Tree, Trees}
+use Rattle.tg_model.specs.Tree.{Trees}
 use Rattle.tg_model.specs.Types.{Ty, tys}
 use Rattle.tg_model.specs.Theory.{Theory, Function, plain, numbered, datatype_of}
 use Rattle.tg_model.specs.Denotation.{others}
@@ -15,17 +15,16 @@ use Rattle.tg_model.specs.Accepted.{bodies}
 use Rattle.tg_model.proofs.Booleans.{and_left, and_right, or_left_false, or_right_false}
 use Rattle.tg_accept.specs.Declared.{Declared, theory}
 use Rattle.tg_accept.specs.Faults.{each_call, is_lower_use, recursive_arguments, are_cases_shaped, is_body_shaped}
-use Rattle.tg_accept.specs.Resolved.{Head, zero_head, Resolved, Resolveds, calls_program}
-use Rattle.tg_accept.specs.ResolvedTyping.{head_at}
+use Rattle.tg_accept.specs.Resolved.{Head, Resolved, Resolveds, calls_program}
 use Rattle.tg_accept.specs.Core.{core, cores, heads_of}
 use Rattle.tg_accept.specs.Checks.{Each}
 use Rattle.tg_accept.specs.Typings.{HasTyping}
 use Rattle.tg_accept.specs.Equations.{Pattern, variable, matched, count_variables, opened, own_parameters, Equation, IsEquationTyping}
 use Rattle.tg_accept.specs.Uses.{EachOwnUse}
-use Rattle.tg_accept.specs.Functions.{Meant, IsTypable, places, place_in, is_for, count_for, side_for, first_side, datatype_at_place, body_of, whole_function, recursive_flags, IsRecursiveUse, IsEquationShaped, IsPrimrecWritten, IsDefinitionShaped, NamesNoProgram}
+use Rattle.tg_accept.specs.Functions.{Meant, IsTypable, place_in, is_for, count_for, side_for, first_side, datatype_at_place, body_of, whole_function, recursive_flags, IsRecursiveUse, IsEquationShaped, IsPrimrecWritten, IsDefinitionShaped, NamesNoProgram}
 use Rattle.tg_accept.proofs.KeptTypes.{numbered_before}
 use Rattle.tg_accept.proofs.CoreTypes.{heads_same}
-use Rattle.tg_accept.proofs.LeftSides.{Lefts, places_above, Matching, counted, opened_at, number_at, others_at}
+use Rattle.tg_accept.proofs.LeftSides.{places_above, counted, opened_at, number_at, others_at}
 use Rattle.tg_accept.proofs.FunctionMeanings.{IsRight, matching_of, two_of}
 use Rattle.tg_accept.proofs.FitTerms.{IsFit, fit, head_among}
 use Rattle.tg_accept.proofs.SameBranches.{same_itself}
@@ -55,23 +54,23 @@ module _ (D : Declared) (place start : ℕ) where
       → (Test h self (cores th self ts) ≡ true) ↔ IsRecursiveUse D place e ts
   use_of e h for_head count ts = (
     λ q.
-    let s = own_smaller th self place start (recursive_flags D h) ts q in
-    record {
-      head = h;
-      is_head = for_head;
-      number = s.number;
-      argument = s.argument;
-      recursive = record { index = s.index; number = s.same ∙ ap (λ n. suc (n + s.index)) (sym count); recursive = s.recursive };
-    },
+        let s = own_smaller th self place start (recursive_flags D h) ts q in
+        record {
+          head = h;
+          is_head = for_head;
+          number = s.number;
+          argument = s.argument;
+          recursive = record { index = s.index; number = s.same ∙ ap (λ n. suc (n + s.index)) (sym count); recursive = s.recursive };
+        },
     λ u.
-    let same : u.head ≡ h = one_head u.head h e.patterns u.is_head for_head in
-    smaller_own th self place start (recursive_flags D h) ts (record {
-      number = u.number;
-      argument = u.argument;
-      index = u.recursive.index;
-      same = u.recursive.number ∙ ap (λ n. suc (n + u.recursive.index)) count;
-      recursive = subst (λ k. slice_get (recursive_flags D k) u.recursive.index ≡ Some true) same u.recursive.recursive;
-    }),
+        let same : u.head ≡ h = one_head u.head h e.patterns u.is_head for_head in
+        smaller_own th self place start (recursive_flags D h) ts (record {
+          number = u.number;
+          argument = u.argument;
+          index = u.recursive.index;
+          same = u.recursive.number ∙ ap (λ n. suc (n + u.recursive.index)) count;
+          recursive = subst (λ k. slice_get (recursive_flags D k) u.recursive.index ≡ Some true) same u.recursive.recursive;
+        }),
   )
 
   -- what is known of an equation
@@ -247,7 +246,7 @@ module _ (D : Declared) (m : Meant) where
       let here = no_call m.equations hs
       (by_heads K NamesNone IsFree (λ e h for_head q. call_free (theory [] D) (suc (length D.functions)) e.body q.1) m.equations all hs (covered_at k written)) in
       subst (λ p. list_any has_call (map (λ h. core (theory [] D) (suc (length D.functions)) (side_for m.equations h)) (heads_of (theory [] D) (datatype_at_place f p))) ≡ false)
-          k.is_place here
+      k.is_place here
 
   -- ---- a definition
 

@@ -1,37 +1,31 @@
 -- A body is shaped, and calls no program, exactly where its equations are and don't.
-use Rattle.std.proofs.Common.{ℕ, zero, suc, ◌≡◌, ◌<◌, ◌≤◌, ◌+◌, ◌-◌, Bool, true, false, not, nat_eq, List, [], ◌∷◌, ◌++◌, map, length, Option, Some, None, refl, sym, ◌∙◌, ap, subst, inl, inr, if◌then◌else◌, arith}
-use Rattle.std.specs.Prelude.{◌&&◌, ◌||◌, ◌↔◌, nat_lt, slice_get, option_map, option_and_then, unwrap_or, take, drop}
+use Rattle.std.proofs.Common.{ℕ, zero, suc, ◌≡◌, ◌<◌, ◌+◌, ◌-◌, Bool, true, false, not, nat_eq, List, [], ◌∷◌, map, length, Option, Some, None, refl, sym, ◌∙◌, ap, subst, inl, inr, if◌then◌else◌, arith}
+use Rattle.std.specs.Prelude.{◌||◌, nat_lt, slice_get, option_map, unwrap_or}
 use Rattle.std.specs.Option.{option_map_or}
-use Rattle.std.specs.List.{list_any}
 use Rattle.std.proofs.lemmas.Bool.{ltb-true}
 use Rattle.std.proofs.lemmas.Bool.Decides.{Decides-eqb, Decides-ltb}
-use Rattle.std.proofs.lemmas.Option.{slice_get_within, slice_get-map}
+use Rattle.std.proofs.lemmas.Option.{slice_get-map}
 use Rattle.tg_model.specs.Tree as tree
 use Rattle.tg_model.specs.Tree.{Tree, Trees, elements}
 use Rattle.tg_model.specs.Types as types
 use Rattle.tg_model.specs.Types.{Ty, Tys, nat, bool, parameter, meta, applied, tys}
-use Rattle.tg_model.specs.Theory.{Theory, Datatype, Constructor, Function, Owned, constructor_at, first_constructor, numbered, datatype_of}
-use Rattle.tg_model.specs.Denotation.{others}
+use Rattle.tg_model.specs.Theory.{Theory, Datatype, Constructor, Owned, constructor_at, first_constructor, numbered, datatype_of}
 use Rattle.tg_model.specs.TermTyping.{IsDatatype, datatype_at}
 use Rattle.tg_model.specs.WellTyped.{AreBefore}
-use Rattle.tg_model.specs.Calls.{has_call}
 use Rattle.tg_model.specs.Accepted.{IsAmong}
-use Rattle.tg_model.proofs.Booleans.{and_left, and_right, or_cases, or_left_false, or_right_false}
+use Rattle.tg_model.proofs.Booleans.{and_left, and_right}
 use Rattle.tg_model.proofs.Inhabited.{constructor_number}
 use Rattle.tg_accept.specs.Declared.{Declared, theory}
-use Rattle.tg_accept.specs.Faults.{each_call, is_smaller, is_lower_use, recursive_arguments, are_cases_shaped}
+use Rattle.tg_accept.specs.Faults.{is_smaller, is_lower_use, recursive_arguments}
 use Rattle.tg_accept.specs.Resolved as resolved
 use Rattle.tg_accept.specs.Resolved.{Head, zero_head, successor_head, of, Resolved, Resolveds, calls_program}
-use Rattle.tg_accept.specs.Core.{core, cores, heads_from, heads_of, same_head}
+use Rattle.tg_accept.specs.Core.{core, cores, heads_from, heads_of}
 use Rattle.tg_accept.specs.Checks.{Each}
-use Rattle.tg_accept.specs.Equations.{Pattern, Equation, parts, opened, count_variables}
-use Rattle.tg_accept.specs.Uses.{EachOwnUse, terms_in}
-use Rattle.tg_accept.specs.Functions.{is_for, count_for, side_for, recursive_flags, IsRecursiveVariable, IsRecursiveUse}
-use Rattle.tg_accept.proofs.KeptTypes.{numbered_before, elements_tys}
-use Rattle.tg_accept.proofs.CoreTypes.{heads_same}
+use Rattle.tg_accept.specs.Equations.{Equation, opened}
+use Rattle.tg_accept.specs.Uses.{terms_in}
+use Rattle.tg_accept.specs.Functions.{is_for, count_for, side_for, recursive_flags}
 use Rattle.tg_accept.proofs.FunctionMeanings.{one_for}
 use Rattle.tg_accept.proofs.SameCalls.{both_true}
-use Rattle.tg_accept.proofs.FitTerms.{IsFit}
 
 -- ---- right sides by heads, and by equations
 

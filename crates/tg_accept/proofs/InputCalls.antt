@@ -1,9 +1,8 @@
 -- Arguments of a program call are the variables in order exactly where their core terms are.
-use Rattle.std.proofs.Common.{ℕ, zero, suc, ◌≡◌, ◌+◌, Bool, true, false, nat_eq, List, length, refl, sym, ◌∙◌, ap, subst, arith}
-use Rattle.std.specs.Prelude.{◌&&◌, ◌↔◌}
+use Rattle.std.proofs.Common.{ℕ, zero, suc, ◌≡◌, ◌+◌, true, nat_eq, length, refl, sym, ap, subst, arith}
+use Rattle.std.specs.Prelude.{◌↔◌}
 use Rattle.std.proofs.lemmas.Bool.Decides.{Decides-eqb}
-use Rattle.tg_model.specs.Tree as tree
-use Rattle.tg_model.specs.Tree.{Tree, Trees, elements}
+use Rattle.tg_model.specs.Tree.{elements}
 use Rattle.tg_model.specs.Theory.{Theory}
 use Rattle.tg_model.proofs.Booleans.{and_left, and_right}
 use Rattle.tg_accept.specs.Faults.{is_variable, are_variables, are_inputs}
@@ -54,5 +53,5 @@ module _ (th : Theory) (self : ℕ) where
   inputs_in_order count ts = (
     λ e. in_order 1 count ts ((Decides-eqb (length (elements (cores th self ts))) count).0 (and_left _ _ e)) (and_right (nat_eq (length (elements (cores th self ts))) count) _ e),
     λ e. subst (λ us. are_inputs count (cores th self us) ≡ true) (sym e)
-    (both_true _ _ ((Decides-eqb (length (elements (cores th self (variables_on 1 count)))) count).1 (long 1 count)) (ordered 1 count)),
+        (both_true _ _ ((Decides-eqb (length (elements (cores th self (variables_on 1 count)))) count).1 (long 1 count)) (ordered 1 count)),
   )

@@ -1,10 +1,9 @@
 -- A primitive recursive function that is accepted, and one that recurses on the whole argument.
-use Rattle.std.proofs.Common.{ℕ, ◌≡◌, true, false, List, [], ◌∷◌, ◌++◌, map, Option, Some, None, refl, sym, ◌∙◌, ap, subst, inl, inr, arith}
+use Rattle.std.proofs.Common.{ℕ, ◌≡◌, List, [], ◌∷◌, ◌++◌, map, Option, Some, None, refl, sym, ◌∙◌, ap, inl, inr, arith}
 use Rattle.std.specs.Prelude.{codes}
-use Rattle.tg_model.specs.Tree as tree
 use Rattle.tg_model.specs.Types as types
 use Rattle.tg_model.specs.Types.{Ty, Tys, nat, parameter, applied, tys, elements}
-use Rattle.tg_model.specs.Theory.{Theory, Function, Owned, constructor_at, instance, recursive}
+use Rattle.tg_model.specs.Theory.{Theory, Function, Owned, constructor_at, instance}
 use Rattle.tg_model.specs.TermTyping.{Typing, Typings, leaf, instanced, compound, branching, binding, type_of, types_of}
 use Rattle.tg_model.specs.TermTyping as typing
 use Rattle.tg_accept.specs.Declared.{theory}
@@ -204,9 +203,12 @@ whole_argument =
     next (on_lists empty_zero filled_whole) shape (
     inr (
       (omega arith, (omega arith, tt)),
-      inr (tt, inr (
-        record { types = list_types.types; equations = (one_has _ none, (one_has _ whole_typed, tt)) },
-        inr ((none, (whole_typed, tt)), inl ((λ s. let q = s.lower.1.0.0.argument in cc q), refl)),
-      ))
+      inr (
+        tt,
+        inr (
+          record { types = list_types.types; equations = (one_has _ none, (one_has _ whole_typed, tt)) },
+          inr ((none, (whole_typed, tt)), inl ((λ s. let q = s.lower.1.0.0.argument in cc q), refl)),
+        ),
+      ),
     )
     )

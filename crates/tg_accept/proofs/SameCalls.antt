@@ -1,7 +1,6 @@
 -- The calls in a core term are those in the resolved term.
 use Rattle.std.proofs.Common.{ℕ, ◌≡◌, ◌≤◌, Bool, true, false, List, [], ◌∷◌, refl, length}
 use Rattle.std.specs.Prelude.{◌&&◌, ◌||◌, ◌↔◌}
-use Rattle.tg_model.specs.Tree as tree
 use Rattle.tg_model.specs.Tree.{Tree, Trees}
 use Rattle.tg_model.specs.Theory.{Theory}
 use Rattle.tg_model.specs.Calls.{has_call, have_call, branches_have_call}

@@ -173,7 +173,7 @@ specification_told D xs t for has shaped = by D.program refl for.program
 
     by : (o : Option Program) → D.program ≡ o → is_some o ≡ true
         → Tells (option_map_or (λ (p : Program). if is_some D.specification || not (each_put (length p.inputs) (whole_specification D t)) then Some faults.program else None) o (Some faults.program))
-            (Unit {0}) (IsSpecificationFit D t)
+        (Unit {0}) (IsSpecificationFit D t)
     by None e h = cc h
     by (Some p) e h =
         let same : (theory [] D).program ≡ p = ap (λ o. unwrap_or o no_program) e in
@@ -182,5 +182,5 @@ specification_told D xs t for has shaped = by D.program refl for.program
         let n = length (theory [] D).program.inputs in
         let Inputs : Resolveds → Type 0 = λ ts. ts ≡ variables_on 1 n in
         specification_checks_told (IsSpecificationFit D t) (is_some D.specification) (each_put (length p.inputs) (whole_specification D t))
-            (λ b c. record { first = b; calls = right_put (theory [] D) 0 n Inputs (inputs_in_order (theory [] D) 0 n) t fits (calls ∙ c) })
-            (λ s. (s.first, sym calls ∙ put_right (theory [] D) 0 n Inputs (inputs_in_order (theory [] D) 0 n) t fits s.calls))
+        (λ b c. record { first = b; calls = right_put (theory [] D) 0 n Inputs (inputs_in_order (theory [] D) 0 n) t fits (calls ∙ c) })
+        (λ s. (s.first, sym calls ∙ put_right (theory [] D) 0 n Inputs (inputs_in_order (theory [] D) 0 n) t fits s.calls))
