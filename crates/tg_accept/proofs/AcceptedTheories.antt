@@ -46,7 +46,7 @@ module _ (D : Declared) (kept : IsKept D) where
       let s = p.1.1.1.1.0 in
       let w = written r m s in
       functions_keep D (whole_function D r m) kept (function_is_meant D r m p.1.1.0 w)
-      (no_fault _ _ _ (function_told D x r ts es m e w) s p.1.1.1.1.1.0)
+      (no_fault _ _ _ (function_told D x r ts es m e p.1.1.0 w) s p.1.1.1.1.1.0)
 
   kept_program : (x : Name) (ts : List RawType) (o : Option Program) → program_meant D x ts ≡ o
       → Pass (program_checks D ts o) → IsKept (option_map_or (with_program D) o D)
@@ -59,7 +59,7 @@ module _ (D : Declared) (kept : IsKept D) where
   kept_specification xs body None e p = absurd p.1.1.0
   kept_specification xs body (Some t) e p =
       specifications_keep D (whole_specification D t) kept (specification_is_meant D xs t p.1.1.1.0 p.1.1.1.1.1.0)
-      (no_fault _ _ _ (specification_told D xs t p.1.0) tt p.1.1.1.1.1.1.0)
+      (no_fault _ _ _ (specification_told D xs t p.1.0 p.1.1.1.0 p.1.1.1.1.1.0) tt p.1.1.1.1.1.1.0)
 
 pub kept_after : KeptAfter
 kept_after D (raw.datatype x params cs) kept p = kept_datatype D kept x params cs (datatype_meant D x params cs) refl p

@@ -1,13 +1,13 @@
 -- What a typing tells of the calls and the branches in a term: functions are declared, and branches are of the datatype.
-use Rattle.std.proofs.Common.{ℕ, zero, suc, ◌≡◌, ◌<◌, ◌≤◌, ◌+◌, ◌-◌, List, [], ◌∷◌, ◌++◌, map, reverse, length, Option, Some, None, refl, sym, ◌∙◌, ap, subst, inl, inr, arith}
+use Rattle.std.proofs.Common.{ℕ, zero, suc, ◌≡◌, ◌<◌, ◌≤◌, ◌+◌, ◌-◌, List, [], ◌∷◌, ◌++◌, map, reverse, length, Option, Some, None, refl, sym, ap, subst, inl, inr, arith}
 use Rattle.std.specs.Prelude.{slice_get, option_map}
 use Rattle.std.specs.Option.{option_map_or}
 use Rattle.std.proofs.lemmas.Option.{slice_get_within}
 use Rattle.tg_model.specs.Types.{Ty, nat}
 use Rattle.tg_model.specs.Theory.{Theory, Datatype, Function, Owned, constructor_at, first_constructor, numbered, instance}
-use Rattle.tg_model.specs.TermTyping.{Typing, Typings, ArmTypings, leaf, instanced, compound, branching, binding, none, more, end, arm}
+use Rattle.tg_model.specs.TermTyping.{Typing, Typings, ArmTypings, instanced, compound, branching, binding, none, more, end, arm}
 use Rattle.tg_model.specs.Accepted.{IsAmong, AreDistinct}
-use Rattle.tg_model.proofs.Numbering.{Numbered, numbered_constructor}
+use Rattle.tg_model.proofs.Numbering.{numbered_constructor}
 use Rattle.tg_accept.specs.Resolved as resolved
 use Rattle.tg_accept.specs.Resolved.{Head, zero_head, successor_head, of, Resolved, Resolveds, Branches, bound, free, literal, truth, con, call, own, misused, put, choice, case, bind, op, branch}
 use Rattle.tg_accept.specs.ResolvedTyping.{head_at, IsTypingOf, AreTypingsOf, AreBranchTypings}

@@ -28,12 +28,12 @@ count_parameters : (n count : ℕ) → length (parameters_from n count) ≡ coun
 count_parameters n zero = refl
 count_parameters n (suc count) = ap suc (count_parameters (suc n) count)
 
-two_of : {A : Type 0} (P Q : A → Type 0) (xs : List A) → Each P xs → Each Q xs → Each (λ x. P x × Q x) xs
+pub two_of : {A : Type 0} (P Q : A → Type 0) (xs : List A) → Each P xs → Each Q xs → Each (λ x. P x × Q x) xs
 two_of P Q [] p q = tt
 two_of P Q (x ∷ xs) p q = ((p.0, q.0), two_of P Q xs p.1 q.1)
 
 -- the equation for a head, where there is one
-one_for : (P : Equation → Type 0) (h : Head) (es : List Equation) → Each P es → count_for h es ≡ 1
+pub one_for : (P : Equation → Type 0) (h : Head) (es : List Equation) → Each P es → count_for h es ≡ 1
     → (e : Equation) × P e × (is_for h e.patterns ≡ true) × (side_for es h ≡ e.body)
 one_for P h [] all c = cc c
 one_for P h (e ∷ es) all c = by (is_for h e.patterns) refl c (λ n. one_for P h es all.1 n)
@@ -66,11 +66,11 @@ module _ (D : Declared) (m : Meant) where
   abbrev th : Theory
   th = theory [] D
 
-  abbrev Typed : Equation → Type 0
+  abbrev pub Typed : Equation → Type 0
   Typed e = HasTyping (IsEquationTyping th (Some f) f e)
 
   -- what is known of an equation with one constructor pattern
-  abbrev IsRight : ℕ → Equation → Type 0
+  abbrev pub IsRight : ℕ → Equation → Type 0
   IsRight place e = (Typed e × IsEquationShaped D f e) × (places e.patterns ≡ place ∷ [])
 
   abbrev self : ℕ
@@ -82,7 +82,7 @@ module _ (D : Declared) (m : Meant) where
   abbrev wide : Theory
   wide = theory [] (with_function D (whole_function D true m))
 
-  matching_of : (k : ℕ) (e : Equation) (right : IsRight (suc k) e) → Matching th e.patterns f.arguments right.0.0.is.0 k
+  pub matching_of : (k : ℕ) (e : Equation) (right : IsRight (suc k) e) → Matching th e.patterns f.arguments right.0.0.is.0 k
   matching_of k e right =
       let next : suc k ≡ 1 + k = omega arith in
       let at : places e.patterns ≡ (1 + k) ∷ [] = subst (λ n. places e.patterns ≡ n ∷ []) next right.1 in

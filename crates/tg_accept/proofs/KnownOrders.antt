@@ -1,5 +1,5 @@
 -- Texts with more than one fault, or with a fault that only a typing shows: each is refused for the first kind of them.
-use Rattle.std.proofs.Common.{ℕ, ◌≡◌, true, false, List, [], ◌∷◌, ◌++◌, Option, Some, None, refl, sym, ◌∙◌, ap, inl, inr, arith}
+use Rattle.std.proofs.Common.{ℕ, ◌≡◌, List, [], ◌∷◌, ◌++◌, Some, None, refl, ◌∙◌, ap, inl, inr, arith}
 use Rattle.std.specs.Prelude.{codes}
 use Rattle.tg_model.specs.Types.{Ty, nat, bool, applied, tys}
 use Rattle.tg_model.specs.Theory.{Theory, Function, numbered}
@@ -67,10 +67,13 @@ ambiguous_binder =
     next (on_numbers open_binder) ambiguous (
     inr (
       (omega arith, tt),
-      inr (tt, inr (
-        record { types = (tt, (tt, tt)); equations = (record { typing = bound_at nat; is = right nat }, tt) },
-        inl (inl (record { typing = bound_at nat; other = bound_at bool; is = right nat; other_is = right bool; differ = λ e. apart (ap binder_type e) }), refl),
-      ))
+      inr (
+        tt,
+        inr (
+          record { types = (tt, (tt, tt)); equations = (record { typing = bound_at nat; is = right nat }, tt) },
+          inl (inl (record { typing = bound_at nat; other = bound_at bool; is = right nat; other_is = right bool; differ = λ e. apart (ap binder_type e) }), refl),
+        ),
+      ),
     )
     )
   where
@@ -110,17 +113,32 @@ put_typed = record { typing = put_typing; is = ((nat ∷ [], []), refl, (refl, r
 
 program_in_definition : IsRefused nothing 1 (put_program ∷ through_program ∷ []) 2 checks.program
 program_in_definition =
-    inr (program_passes, inl (inr ((omega arith, tt), inr (tt, inr (
-      record { types = (tt, (tt, tt)); equations = (record { typing = put_typed.typing; is = put_typed.is }, tt) },
-      inr ((put_typed, tt), inr (
-        record {
-          equations = (record { begins = refl; distinct = ((λ h. h), tt); cases = record { whole = (tt, tt); once = (tt, tt); distinct = (tt, tt) } }, tt);
-          one_equation = refl;
-          no_pattern = (refl, tt);
-        },
-        inl ((λ e. let q = e in cc q), refl),
-      )),
-    ))), refl))
+    inr (
+      program_passes,
+      inl (
+        inr (
+          (omega arith, tt),
+          inr (
+            tt,
+            inr (
+              record { types = (tt, (tt, tt)); equations = (record { typing = put_typed.typing; is = put_typed.is }, tt) },
+              inr (
+                (put_typed, tt),
+                inr (
+                  record {
+                    equations = (record { begins = refl; distinct = ((λ h. h), tt); cases = record { whole = (tt, tt); once = (tt, tt); distinct = (tt, tt) } }, tt);
+                    one_equation = refl;
+                    no_pattern = (refl, tt);
+                  },
+                  inl ((λ e. let q = e.0 in cc q), refl),
+                ),
+              ),
+            ),
+          ),
+        ),
+        refl,
+      ),
+    )
 
 -- ---- declarations may stand behind the specification
 

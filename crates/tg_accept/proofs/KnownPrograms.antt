@@ -17,6 +17,7 @@ use Rattle.tg_accept.specs.Checks.{First, Pass, shape}
 use Rattle.tg_accept.specs.Typings.{HasOneTyping}
 use Rattle.tg_accept.specs.Functions.{function_meant}
 use Rattle.tg_accept.specs.Programs.{specification_meant, whole_specification, IsSpecificationTyping}
+use Rattle.tg_accept.specs.Uses.{EachProgramCall, variables_on}
 use Rattle.tg_accept.specs.Theories.{checks_of, after, IsRefused, IsTheoryOf}
 use Rattle.tg_accept.proofs.AcceptedTheories.{theory_is_accepted}
 use Rattle.tg_accept.proofs.KnownTexts.{one, word, equals, lets, constructor_of, x, lists, lists_pass, list_of, IsRefusedNext, next}
@@ -131,7 +132,7 @@ always_passes = (
       tt,
       (
         record { typing = truth_typed.typing; is = truth_typed.is },
-        (truth_typed, (record { distinct = ((λ h. h), tt); cases = record { whole = tt; once = tt; distinct = tt } }, (record { first = refl; calls = refl }, tt))),
+        (truth_typed, (record { distinct = ((λ h. h), tt); cases = record { whole = tt; once = tt; distinct = tt } }, (record { first = refl; calls = tt }, tt))),
       ),
     ),
   ),
@@ -211,6 +212,22 @@ on_number = refl
 
 on_hidden : Calls (lets x (word x) (equals (raw.word (codes "put") (one (word x))) (raw.number 0))) false
 on_hidden = refl
+
+-- the same of the resolved terms
+abbrev OnVariables : Resolved → Type 0
+OnVariables t = EachProgramCall (λ ts. ts ≡ variables_on 1 1) t
+
+right_call : OnVariables (resolved.put (resolved.more (resolved.free 1) resolved.none))
+right_call = refl
+
+call_on_number : ¬ (OnVariables (resolved.put (resolved.more (resolved.literal 0) resolved.none)))
+call_on_number h = cc h
+
+call_on_hidden : ¬ (OnVariables (resolved.bind (resolved.free 1) (resolved.put (resolved.more (resolved.bound 0) resolved.none))))
+call_on_hidden h = let q = h.1 in cc q
+
+call_on_more : ¬ (OnVariables (resolved.put (resolved.more (resolved.free 1) (resolved.more (resolved.free 2) resolved.none))))
+call_on_more h = cc h
 
 -- a definition that names the program is refused for that, after its types and its shape; before the program is declared the word is
 -- unknown

@@ -1,10 +1,9 @@
 -- A primitive recursive function that is accepted, and one that recurses on the whole argument.
-use Rattle.std.proofs.Common.{ℕ, ◌≡◌, true, false, List, [], ◌∷◌, ◌++◌, map, Option, Some, None, refl, sym, ◌∙◌, ap, subst, inl, inr, arith}
+use Rattle.std.proofs.Common.{ℕ, ◌≡◌, List, [], ◌∷◌, ◌++◌, map, Option, Some, None, refl, sym, ◌∙◌, ap, inl, inr, arith}
 use Rattle.std.specs.Prelude.{codes}
-use Rattle.tg_model.specs.Tree as tree
 use Rattle.tg_model.specs.Types as types
 use Rattle.tg_model.specs.Types.{Ty, Tys, nat, parameter, applied, tys, elements}
-use Rattle.tg_model.specs.Theory.{Theory, Function, Owned, constructor_at, instance, recursive}
+use Rattle.tg_model.specs.Theory.{Theory, Function, Owned, constructor_at, instance}
 use Rattle.tg_model.specs.TermTyping.{Typing, Typings, leaf, instanced, compound, branching, binding, type_of, types_of}
 use Rattle.tg_model.specs.TermTyping as typing
 use Rattle.tg_accept.specs.Declared.{theory}
@@ -16,7 +15,7 @@ use Rattle.tg_accept.specs.Raw.{RawEquation}
 use Rattle.tg_accept.specs.Checks.{shape, Pass}
 use Rattle.tg_accept.specs.Typings.{HasOneTyping}
 use Rattle.tg_accept.specs.Equations.{matched, IsEquationTyping}
-use Rattle.tg_accept.specs.Functions.{Meant, unsaid, body_of}
+use Rattle.tg_accept.specs.Functions.{IsRecursiveUse}
 use Rattle.tg_accept.specs.Theories.{checks_of}
 use Rattle.tg_accept.proofs.KeptTypes.{elements_tys}
 use Rattle.tg_accept.proofs.KnownTexts.{one, two, word, equation, f, x, xs, listed, IsRefusedNext, next, on_lists, filled}
@@ -75,6 +74,10 @@ filled_rest = equation f (filled x xs ∷ []) (raw.word f (one (word xs)))
 differ : x ≡ xs → ⊥
 differ e = cc e
 
+-- `xs` is the second argument of `Cons`, which is recursive
+rest_lower : IsRecursiveUse listed 1 (record { head = f; patterns = matched (of 2) (x ∷ xs ∷ []) ∷ []; body = on_rest }) (resolved.more (resolved.free 2) resolved.none)
+rest_lower = record { head = of 2; is_head = refl; number = 2; argument = refl; recursive = record { index = 1; number = refl; recursive = refl } }
+
 rest_accepted : Pass (checks_of listed (on_lists empty_zero filled_rest))
 rest_accepted =
     let none = number_typed (Some lengths) lengths f (matched (of 1) [] ∷ []) 0 ([], []) refl refl in (
@@ -103,9 +106,9 @@ rest_accepted =
                   one_place = (refl, (refl, tt));
                   covered = (refl, (refl, tt));
                 };
-                lower = refl;
+                lower = (tt, ((rest_lower, (tt, tt)), tt));
               },
-              (refl, tt),
+              ((refl, (refl, tt)), tt),
             ),
           ),
         ),
@@ -200,9 +203,12 @@ whole_argument =
     next (on_lists empty_zero filled_whole) shape (
     inr (
       (omega arith, (omega arith, tt)),
-      inr (tt, inr (
-        record { types = list_types.types; equations = (one_has _ none, (one_has _ whole_typed, tt)) },
-        inr ((none, (whole_typed, tt)), inl ((λ s. let q = s.lower in cc q), refl)),
-      ))
+      inr (
+        tt,
+        inr (
+          record { types = list_types.types; equations = (one_has _ none, (one_has _ whole_typed, tt)) },
+          inr ((none, (whole_typed, tt)), inl ((λ s. let q = s.lower.1.0.0.argument in cc q), refl)),
+        ),
+      ),
     )
     )

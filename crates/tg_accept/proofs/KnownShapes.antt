@@ -164,7 +164,7 @@ zero_accepted =
                 one_equation = refl;
                 no_pattern = (refl, tt);
               },
-              (refl, tt),
+              ((refl, tt), tt),
             ),
           ),
         ),
@@ -269,9 +269,9 @@ cases_accepted =
                   one_place = (refl, (refl, tt));
                   covered = (refl, (refl, tt));
                 };
-                lower = refl;
+                lower = (tt, (tt, tt));
               },
-              (refl, tt),
+              ((refl, (refl, tt)), tt),
             ),
           ),
         ),

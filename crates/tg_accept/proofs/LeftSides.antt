@@ -10,7 +10,7 @@ use Rattle.tg_model.specs.Denotation.{others}
 use Rattle.tg_accept.specs.Resolved.{Head}
 use Rattle.tg_accept.specs.ResolvedTyping.{head_at}
 use Rattle.tg_accept.specs.Core.{same_head}
-use Rattle.tg_accept.specs.Equations.{Pattern, variable, matched, parts, opened, left_types}
+use Rattle.tg_accept.specs.Equations.{Pattern, variable, matched, count_variables, parts, opened, left_types}
 use Rattle.tg_accept.specs.Functions.{places_from, is_for}
 use Rattle.tg_accept.proofs.KeptTypes.{elements_tys}
 
@@ -41,7 +41,7 @@ if_some true o y e = (refl, e)
 if_some false o y e = cc e
 
 -- constructor patterns stand at the places from the first on
-places_above : (n p : ℕ) (rest : List ℕ) (ps : List Pattern) → places_from n ps ≡ p ∷ rest → n ≤ p
+pub places_above : (n p : ℕ) (rest : List ℕ) (ps : List Pattern) → places_from n ps ≡ p ∷ rest → n ≤ p
 places_above n p rest [] e = cc e
 places_above n p rest (variable x ∷ ps) e = let h = places_above (suc n) p rest ps e in omega (arith, h)
 places_above n p rest (matched h xs ∷ ps) e = let q : n ≡ p = cc e in omega (arith, q)
@@ -66,6 +66,7 @@ module _ (th : Theory) where
     pub opens : opened th head type ≡ Some arguments
     pub is_head : (h : Head) → is_for h ps ≡ same_head head h
     pub types : both l ≡ (take k ts ++ drop (suc k) ts) ++ arguments
+    pub first : l.0 ≡ take k ts ++ drop (suc k) ts
 
   here : (n : ℕ) (h : Head) (xs : List (List ℕ)) (ps : List Pattern) (t : Ty) (ts : List Ty) (l : Lefts) → places_from (suc n) ps ≡ []
       → left_types th (matched h xs ∷ ps) (t ∷ ts) ≡ Some l → Matching (matched h xs ∷ ps) (t ∷ ts) l 0
@@ -82,6 +83,7 @@ module _ (th : Theory) where
         opens = o.1;
         is_head = λ k. refl;
         types = ap both (sym m.2) ∙ (ap (λ (k : List Ty). k ++ (o.0 ++ m.0.1)) r.0 ∙ (ap (λ (k : List Ty). ts ++ (o.0 ++ k)) r.1 ∙ ap (λ (k : List Ty). ts ++ k) (append-nil o.0)));
+        first = ap (λ (k : Lefts). k.0) (sym m.2) ∙ r.0;
       }
 
   further : (n : ℕ) (x : List ℕ) (ps : List Pattern) (t : Ty) (ts : List Ty) (l m : Lefts) (k : ℕ) → before t m ≡ l → Matching ps ts m k
@@ -94,6 +96,7 @@ module _ (th : Theory) where
     opens = r.opens;
     is_head = r.is_head;
     types = ap both (sym e) ∙ ap (λ (z : List Ty). t ∷ z) r.types;
+    first = ap (λ (k : Lefts). k.0) (sym e) ∙ ap (λ (z : List Ty). t ∷ z) r.first;
   }
 
   pub matching_left : (n k : ℕ) (ps : List Pattern) (ts : List Ty) (l : Lefts) → places_from n ps ≡ (n + k) ∷ [] → left_types th ps ts ≡ Some l
@@ -110,6 +113,20 @@ module _ (th : Theory) where
       let m = mapped (before t) (left_types th ps ts) l q in
       let same : n + suc k ≡ suc n + k = omega arith in
       further n x ps t ts l m.0 k m.2 (matching_left (suc n) k ps ts m.0 (e ∙ ap (λ p. p ∷ []) same) m.1)
+
+  -- as many types come first as patterns are variables
+  pub counted : (ps : List Pattern) (ts : List Ty) (l : Lefts) → left_types th ps ts ≡ Some l → count_variables ps ≡ length l.0
+  counted [] [] l e = let q : ([], []) ≡ l = cc e in ap (λ (k : Lefts). length k.0) q
+  counted [] (t ∷ ts) l e = cc e
+  counted (variable x ∷ ps) [] l e = cc e
+  counted (matched h xs ∷ ps) [] l e = cc e
+  counted (variable x ∷ ps) (t ∷ ts) l e =
+      let m = mapped (before t) (left_types th ps ts) l e in ap suc (counted ps ts m.0 m.1) ∙ ap (λ (k : Lefts). length k.0) m.2
+  counted (matched h xs ∷ ps) (t ∷ ts) l e =
+      let o = then_some _ (opened th h t) l e in
+      let c = if_some (nat_eq (length xs) (length o.0)) (option_map (behind o.0) (left_types th ps ts)) l o.2 in
+      let m = mapped (behind o.0) (left_types th ps ts) l c.1 in
+      counted ps ts m.0 m.1 ∙ ap (λ (k : Lefts). length k.0) m.2
 
   abbrev pair : ℕ → List Ty → ℕ × List Ty
   pair d us = (d, us)

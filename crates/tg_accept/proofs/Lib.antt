@@ -31,3 +31,8 @@ pub mod KnownCertificates
 pub mod KnownOrders
 pub mod KnownRecursion
 pub mod FitTerms
+pub mod SameBranches
+pub mod SameCalls
+pub mod FunctionShapes
+pub mod FunctionAnswers
+pub mod InputCalls

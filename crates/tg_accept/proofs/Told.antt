@@ -12,13 +12,19 @@ use Rattle.tg_accept.specs.Declared.{Declared, no_program, theory}
 use Rattle.tg_accept.specs.Kept.{names_of_types, names_of_values}
 use Rattle.tg_accept.specs.Faults as faults
 use Rattle.tg_accept.specs.Faults.{Fault, is_taken, first_taken, is_argument, is_base, is_datatype_shaped, is_body_shaped, from_one_to_eight, has_parameter, each_put, datatype_fault, function_fault, program_fault, specification_fault}
+use Rattle.tg_accept.specs.Resolved.{Resolveds}
 use Rattle.tg_accept.specs.Raw.{Name, RawType, RawConstructor}
 use Rattle.tg_accept.specs.Meaning.{each_meant, type_meant, type_variables}
 use Rattle.tg_accept.specs.Datatypes.{are_taken, names_in, constructor_meant, datatype_meant, next_datatype, IsDatatypeShaped}
 use Rattle.tg_accept.specs.Equations.{equation_meant}
-use Rattle.tg_accept.specs.Functions.{Meant, split_last, signature_of, signature_meant, scope_of, body_of, whole_function, IsFunctionShaped, NamesNoProgram}
+use Rattle.tg_accept.specs.Functions.{Meant, split_last, signature_of, signature_meant, scope_of, body_of, whole_function, IsTypable, IsFunctionShaped, NamesNoProgram}
 use Rattle.tg_accept.specs.Programs.{IsProgramFit, whole_specification, IsSpecificationFit}
 use Rattle.tg_accept.specs.MeantLaws.{Tells, DatatypeTold, FunctionTold, ProgramTold, SpecificationTold, IsFunctionWritten}
+use Rattle.tg_accept.specs.Uses.{variables_on}
+use Rattle.tg_accept.proofs.FitTerms.{IsFit, fit}
+use Rattle.tg_accept.proofs.SameCalls.{put_right, right_put}
+use Rattle.tg_accept.proofs.InputCalls.{inputs_in_order}
+use Rattle.tg_accept.proofs.FunctionAnswers.{primrec_lower, lower_primrec, primrec_free, free_primrec, definition_free, free_definition}
 use Rattle.tg_accept.proofs.LeftSides.{mapped, then_some}
 
 pub none_if : {A : Type 0} (b : Bool) (o : Option A) (y : A) → (if b then None else o) ≡ Some y → (b ≡ false) × (o ≡ Some y)
@@ -105,23 +111,31 @@ named_so D x ts f e =
     ap (λ (g : Function). g.name) (sym p.2)
 
 pub function_told : FunctionTold
-function_told D x r ts es m is written =
+function_told D x r ts es m is typable written =
     let free = none_if (is_taken x (names_of_values D)) _ m is in
     let f = then_some _ (signature_meant D x ts) m free.1 in
     let ks = mapped (λ ks. record { signature = f.0; equations = ks }) (each_meant (equation_meant (scope_of D x r)) es) m f.2 in
     let name : m.signature.name ≡ x = ap (λ (n : Meant). n.signature.name) (sym ks.2) ∙ named_so D x ts f.0 f.1 in
     let w = whole_function D r m in
-    function_checks_told (IsFunctionShaped D r m) (NamesNoProgram D r m) w.name (is_taken w.name (names_of_values D)) (is_body_shaped D w w.body)
+    function_checks_told (IsFunctionShaped D r m) (NamesNoProgram m) w.name (is_taken w.name (names_of_values D)) (is_body_shaped D w w.body)
     (list_any has_call (bodies w.body))
-    (ap (λ (y : Name). is_taken y (names_of_values D)) name ∙ free.0) (to r written) (back r) (λ e. e) (λ e. e)
+    (ap (λ (y : Name). is_taken y (names_of_values D)) name ∙ free.0) (to r typable written) (back r typable) (none_named r typable written) (none_called r typable written)
   where
-    to : (b : Bool) → IsFunctionWritten D b m → is_body_shaped D (whole_function D b m) (body_of D b m) ≡ true → IsFunctionShaped D b m
-    to true h e = record { written = h; lower = e }
-    to false h e = h
+    to : (b : Bool) → IsTypable D b m → IsFunctionWritten D b m → is_body_shaped D (whole_function D b m) (body_of D b m) ≡ true → IsFunctionShaped D b m
+    to true t h e = record { written = h; lower = primrec_lower D m t h e }
+    to false t h e = h
 
-    back : (b : Bool) → IsFunctionShaped D b m → is_body_shaped D (whole_function D b m) (body_of D b m) ≡ true
-    back true s = s.lower
-    back false s = refl
+    back : (b : Bool) → IsTypable D b m → IsFunctionShaped D b m → is_body_shaped D (whole_function D b m) (body_of D b m) ≡ true
+    back true t s = lower_primrec D m t s.written s.lower
+    back false t s = refl
+
+    none_named : (b : Bool) → IsTypable D b m → IsFunctionWritten D b m → list_any has_call (bodies (body_of D b m)) ≡ false → NamesNoProgram m
+    none_named true t h e = primrec_free D m t h e
+    none_named false t h e = definition_free D m t h e
+
+    none_called : (b : Bool) → IsTypable D b m → IsFunctionWritten D b m → NamesNoProgram m → list_any has_call (bodies (body_of D b m)) ≡ false
+    none_called true t h e = free_primrec D m t h e
+    none_called false t h e = free_definition D m h e
 
 -- ---- the program and the specification
 
@@ -152,8 +166,11 @@ specification_checks_told Fit false false to back = (tt, λ s. let q = (back s).
 specification_checks_told Fit false true to back = (tt, to refl refl)
 
 pub specification_told : SpecificationTold
-specification_told D xs t for = by D.program refl for.program
+specification_told D xs t for has shaped = by D.program refl for.program
   where
+    fits : IsFit (theory [] D) t
+    fits = fit (theory [] D) None [] (theory [] D).program.inputs t has.typing [] has.is.0 shaped.cases.once
+
     by : (o : Option Program) → D.program ≡ o → is_some o ≡ true
         → Tells (option_map_or (λ (p : Program). if is_some D.specification || not (each_put (length p.inputs) (whole_specification D t)) then Some faults.program else None) o (Some faults.program))
         (Unit {0}) (IsSpecificationFit D t)
@@ -162,5 +179,8 @@ specification_told D xs t for = by D.program refl for.program
         let same : (theory [] D).program ≡ p = ap (λ o. unwrap_or o no_program) e in
         let calls : each_put (length (theory [] D).program.inputs) (whole_specification D t) ≡ each_put (length p.inputs) (whole_specification D t) =
         ap (λ (g : Program). each_put (length g.inputs) (whole_specification D t)) same in
+        let n = length (theory [] D).program.inputs in
+        let Inputs : Resolveds → Type 0 = λ ts. ts ≡ variables_on 1 n in
         specification_checks_told (IsSpecificationFit D t) (is_some D.specification) (each_put (length p.inputs) (whole_specification D t))
-        (λ b c. record { first = b; calls = calls ∙ c }) (λ s. (s.first, sym calls ∙ s.calls))
+        (λ b c. record { first = b; calls = right_put (theory [] D) 0 n Inputs (inputs_in_order (theory [] D) 0 n) t fits (calls ∙ c) })
+        (λ s. (s.first, sym calls ∙ put_right (theory [] D) 0 n Inputs (inputs_in_order (theory [] D) 0 n) t fits s.calls))

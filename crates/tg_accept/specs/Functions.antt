@@ -1,26 +1,24 @@
 -- Declarations of functions: what they mean, and which of them are right.
-use Rattle.std.specs.Prelude.{ℕ, suc, Bool, true, false, ◌≡◌, List, [], ◌∷◌, map, length, Option, Some, None, option_map, option_and_then, if◌then◌else◌}
+use Rattle.std.specs.Prelude.{ℕ, suc, Bool, true, false, nat_eq, ◌+◌, ◌≡◌, List, [], ◌∷◌, map, length, Option, Some, None, slice_get, option_map, option_and_then, if◌then◌else◌}
 use Rattle.std.specs.Option.{option_map_or}
-use Rattle.std.specs.List.{list_any}
 use Rattle.tg_model.specs.Tree as tree
-use Rattle.tg_model.specs.Tree.{Tree}
 use Rattle.tg_model.specs.Types.{Ty}
-use Rattle.tg_model.specs.Theory.{Function, Body, plain, recursive, numbered, datatype_of}
-use Rattle.tg_model.specs.Calls.{has_call}
-use Rattle.tg_model.specs.Accepted.{AreDistinct, bodies}
+use Rattle.tg_model.specs.Theory.{Function, Body, Owned, plain, recursive, numbered, constructor_at, datatype_of}
+use Rattle.tg_model.specs.Accepted.{AreDistinct}
 use Rattle.tg_accept.specs.Declared.{Declared, theory}
 use Rattle.tg_accept.specs.Kept.{names_of_types, names_of_values}
-use Rattle.tg_accept.specs.Faults.{is_taken, is_body_shaped}
+use Rattle.tg_accept.specs.Faults.{is_taken}
 use Rattle.tg_accept.specs.Meant.{AreMade}
 use Rattle.tg_accept.specs.Resolved as resolved
-use Rattle.tg_accept.specs.Resolved.{Head, Resolved}
+use Rattle.tg_accept.specs.Resolved.{Head, zero_head, successor_head, of, Resolved, Resolveds, free, calls_program}
 use Rattle.tg_accept.specs.Core.{core, same_head, heads_of}
 use Rattle.tg_accept.specs.Raw.{Name, RawType, RawEquation}
 use Rattle.tg_accept.specs.Checks.{Each, Any}
 use Rattle.tg_accept.specs.Typings.{HasTyping, HasOneTyping, HasTwoTypings}
 use Rattle.tg_accept.specs.Meaning.{each_meant, type_meant, type_variables, Scope}
-use Rattle.tg_accept.specs.Equations.{Pattern, variable, matched, left_names, Equation, equation_meant, IsEquationTyping}
+use Rattle.tg_accept.specs.Equations.{Pattern, variable, matched, count_variables, left_names, Equation, equation_meant, IsEquationTyping}
 use Rattle.tg_accept.specs.Cases.{AreCasesShaped}
+use Rattle.tg_accept.specs.Uses.{EachOwnUse, terms_in}
 
 -- all but the last item, and the last one
 abbrev pub behind : {A : Type 0} → A → Option (List A × A) → List A × A
@@ -137,6 +135,30 @@ body_of D false m = plain (core (theory [] D) (own_number D) (first_side m.equat
 abbrev pub whole_function : Declared → Bool → Meant → Function
 whole_function D is_recursive m = record m.signature { body = body_of D is_recursive m }
 
+-- ---- uses of the function itself
+
+-- of the arguments of a constructor, which are of its datatype itself: it is told by the declaration and not by an instance
+abbrev pub recursive_flags : Declared → Head → List Bool
+recursive_flags D zero_head = []
+recursive_flags D successor_head = true ∷ []
+recursive_flags D (of c) =
+    option_map_or (λ (o : Owned). map (λ t. nat_eq (datatype_of t) o.datatype) o.constructor.arguments) (constructor_at (theory [] D) c) []
+
+-- variable `n` of an equation with a pattern of this head stands for a recursive argument of the constructor
+pub record IsRecursiveVariable (D : Declared) (e : Equation) (h : Head) (n : ℕ) : Type 0 where
+  pub index : ℕ
+  -- the arguments that are variables have the first numbers
+  pub number : n ≡ suc (count_variables e.patterns + index)
+  pub recursive : slice_get (recursive_flags D h) index ≡ Some true
+
+-- the argument at the place of the constructor pattern is a variable that stands for a recursive argument
+pub record IsRecursiveUse (D : Declared) (place : ℕ) (e : Equation) (ts : Resolveds) : Type 0 where
+  pub head : Head
+  pub is_head : is_for head e.patterns ≡ true
+  pub number : ℕ
+  pub argument : numbered (terms_in ts) place ≡ Some (free number)
+  pub recursive : IsRecursiveVariable D e head number
+
 -- ---- shape
 
 pub record IsEquationShaped (D : Declared) (x : Function) (e : Equation) : Type 0 where
@@ -158,7 +180,7 @@ pub record IsPrimrecWritten (D : Declared) (m : Meant) : Type 0 where
 pub record IsPrimrecShaped (D : Declared) (m : Meant) : Type 0 where
   pub written : IsPrimrecWritten D m
   -- where it uses itself, the argument in that place is a variable that stands for a recursive argument of the equation's constructor
-  pub lower : is_body_shaped D (whole_function D true m) (body_of D true m) ≡ true
+  pub lower : Each (λ e. EachOwnUse (IsRecursiveUse D (place_in m.equations) e) e.body) m.equations
 
 pub record IsDefinitionShaped (D : Declared) (m : Meant) : Type 0 where
   pub equations : Each (IsEquationShaped D m.signature) m.equations
@@ -170,5 +192,5 @@ IsFunctionShaped D true m = IsPrimrecShaped D m
 IsFunctionShaped D false m = IsDefinitionShaped D m
 
 -- the program isn't named in it
-abbrev pub NamesNoProgram : Declared → Bool → Meant → Type 0
-NamesNoProgram D is_recursive m = list_any has_call (bodies (body_of D is_recursive m)) ≡ false
+abbrev pub NamesNoProgram : Meant → Type 0
+NamesNoProgram m = Each (λ e. calls_program e.body ≡ false) m.equations

@@ -41,13 +41,13 @@ DatatypeTold = (D : Declared) (x : Name) (params : List Name) (cs : List RawCons
 
 abbrev pub FunctionTold : Type 0
 FunctionTold = (D : Declared) (x : Name) (is_recursive : Bool) (ts : List RawType) (es : List RawEquation) (m : Meant)
-    → function_meant D x is_recursive ts es ≡ Some m → IsFunctionWritten D is_recursive m
-    → Tells (function_fault D (whole_function D is_recursive m)) (IsFunctionShaped D is_recursive m) (NamesNoProgram D is_recursive m)
+    → function_meant D x is_recursive ts es ≡ Some m → IsTypable D is_recursive m → IsFunctionWritten D is_recursive m
+    → Tells (function_fault D (whole_function D is_recursive m)) (IsFunctionShaped D is_recursive m) (NamesNoProgram m)
 
 abbrev pub ProgramTold : Type 0
 ProgramTold = (D : Declared) (x : Name) (ts : List RawType) (p : Program) → program_meant D x ts ≡ Some p
     → Tells (program_fault D p) (Unit {0}) (IsProgramFit D p)
 
 abbrev pub SpecificationTold : Type 0
-SpecificationTold = (D : Declared) (xs : List Name) (t : Resolved) → IsForProgram D xs
+SpecificationTold = (D : Declared) (xs : List Name) (t : Resolved) → IsForProgram D xs → HasTyping (IsSpecificationTyping D t) → IsSpecificationShaped D xs t
     → Tells (specification_fault D (whole_specification D t)) (Unit {0}) (IsSpecificationFit D t)

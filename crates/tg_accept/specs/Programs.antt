@@ -8,7 +8,7 @@ use Rattle.tg_model.specs.TermTyping.{Typing, type_of}
 use Rattle.tg_model.specs.Accepted.{AreDistinct}
 use Rattle.tg_accept.specs.Declared.{Declared, theory}
 use Rattle.tg_accept.specs.Kept.{names_of_types, names_of_values}
-use Rattle.tg_accept.specs.Faults.{is_taken, from_one_to_eight, has_parameter, each_put}
+use Rattle.tg_accept.specs.Faults.{is_taken, from_one_to_eight, has_parameter}
 use Rattle.tg_accept.specs.Meant.{AreMade}
 use Rattle.tg_accept.specs.Resolved.{Resolved}
 use Rattle.tg_accept.specs.ResolvedTyping.{IsTypingOf}
@@ -18,6 +18,7 @@ use Rattle.tg_accept.specs.Meaning.{each_meant, type_meant, type_variables, Scop
 use Rattle.tg_accept.specs.Equations.{numbered_from}
 use Rattle.tg_accept.specs.Functions.{split_last}
 use Rattle.tg_accept.specs.Cases.{AreCasesShaped}
+use Rattle.tg_accept.specs.Uses.{EachProgramCall, variables_on}
 
 -- ---- the program
 
@@ -70,4 +71,4 @@ pub record IsSpecificationFit (D : Declared) (t : Resolved) : Type 0 where
   -- it is the only one
   pub first : is_some D.specification ≡ false
   -- each program call has just the variables for its arguments, in order
-  pub calls : each_put (length (theory [] D).program.inputs) (whole_specification D t) ≡ true
+  pub calls : EachProgramCall (λ ts. ts ≡ variables_on 1 (length (theory [] D).program.inputs)) t

@@ -30,7 +30,7 @@ abbrev pub function_checks : Declared → Bool → List RawEquation → Option M
 function_checks D is_recursive es o =
     check term_size (Each (λ (e : RawEquation). IsSmall e.body) es) ∷ check name (Exists o) ∷ check typing (Where o (IsTypable D is_recursive))
     ∷ record { kind = ambiguous; fault = Where o (HasTwoTypingsSomewhere D is_recursive); right = Where o (HasOneTypingEach D is_recursive) }
-    ∷ check shape (Where o (IsFunctionShaped D is_recursive)) ∷ check checks.program (Where o (NamesNoProgram D is_recursive)) ∷ []
+    ∷ check shape (Where o (IsFunctionShaped D is_recursive)) ∷ check checks.program (Where o NamesNoProgram) ∷ []
 
 abbrev pub program_checks : Declared → List RawType → Option Program → List Check
 program_checks D ts o =
