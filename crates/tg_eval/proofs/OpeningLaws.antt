@@ -22,6 +22,7 @@ first_found xs d c e = by (numbered xs d) e
     at : (n : ℕ) → slice_get (numbers_from (first_constructor xs d) n) 0 ≡ Some c → c ≡ first_constructor xs d
     at zero k = cc k
     at (suc n) k = let s : first_constructor xs d ≡ c = cc k in sym s
+
     by : (o : Option Datatype) → slice_get (option_map_or (λ (x : Datatype). numbers_from (first_constructor xs d) (length x.constructors)) o []) 0 ≡ Some c
         → c ≡ first_constructor xs d
     by None k = cc k

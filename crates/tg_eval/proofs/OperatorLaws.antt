@@ -221,6 +221,7 @@ joined_unlike p v w c h = sym (by p c)
     by_truths f (boolean a) (made e vs) k = refl
     by_truths f (number m) y k = refl
     by_truths f (made e vs) y k = refl
+
     by : (p : Operator) → connects p ≡ true → operated p (v ∷ w ∷ []) ≡ wrong
     by conjunction e = by_truths _ v w h
     by disjunction e = by_truths _ v w h

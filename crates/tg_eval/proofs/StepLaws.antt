@@ -52,15 +52,25 @@ bounded_outcome (boolean b) left = refl
 bounded_outcome (made c vs) left = refl
 
 pub ruleset lists = (literal_fits)
+
 pub ruleset sizes = (literal_fits)
+
 pub ruleset calls = (literal_fits)
+
 pub ruleset bodies = (literal_fits)
+
 pub ruleset recursions = (literal_fits)
+
 pub ruleset choices = (literal_fits)
+
 pub ruleset binds = (literal_fits)
+
 pub ruleset cases = (literal_fits)
+
 pub ruleset places = (literal_fits)
+
 pub ruleset operators = (literal_fits)
+
 pub ruleset operands = (bounded_outcome)
 
 module _ (th : Theory) (answer : Value) (ev : Evaluator) (left : ℕ) (env loc : List Value) where

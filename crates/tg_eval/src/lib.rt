@@ -8,12 +8,14 @@ mod held;
 mod limiting;
 mod opening;
 mod operating;
+#[cfg(test)]
+mod tests;
+
+ghost use Rattle.tg_eval.specs.Laws.{LimitedIsValue, LimitedWithoutCalls};
 
 pub use converting::{plain, shared, shared_all};
 pub use held::{Held, Seen};
 pub use limiting::{Limited, limited_truth, limited_value, shared_value};
-
-ghost use Rattle.tg_eval.specs.Laws.{LimitedIsValue, LimitedWithoutCalls};
 
 /// In an accepted theory, where a typed term has a limited value, this is its value: on every table that
 /// lists the inputs of all its program calls with the answer that the limited value takes for them, and on

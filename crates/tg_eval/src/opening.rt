@@ -100,13 +100,7 @@ pub(crate) fn part_count(v: &Held) -> usize
     ensures { result ≡ length (parts_of v.now) }
 {
     match v.seen() {
-        Seen::Nat(n) => {
-            if n == 0 {
-                0
-            } else {
-                1
-            }
-        }
+        Seen::Nat(n) => { if n == 0 { 0 } else { 1 } }
         Seen::Truth(_) => 0,
         Seen::Con(_, vs) => vs.len(),
     }

@@ -9,7 +9,7 @@ use Rattle.tg_eval.proofs.evaluating.+value.Given as goal
 abbrev pub invariant-values_of-loop-t : goal.invariant-values_of-loop-t
 invariant-values_of-loop-t l = record {
   value : preceded l.out.items
-  (all_by (theory [] l.given.declared.now) l.given.answer.now (limited (theory [] l.given.declared.now) l.given.answer.now l.levels) l.run.left l.env (reverse l.loc.items) (trees (drop l.t-index l.ts)))
+      (all_by (theory [] l.given.declared.now) l.given.answer.now (limited (theory [] l.given.declared.now) l.given.answer.now l.levels) l.run.left l.env (reverse l.loc.items) (trees (drop l.t-index l.ts)))
       ≡ all_by (theory [] l.given.declared.now) l.given.answer.now (limited (theory [] l.given.declared.now) l.given.answer.now l.levels) l.initial.run.left l.env (reverse l.initial.loc.items) (trees l.ts);
   kept : l.loc.items ≡ l.initial.loc.items;
 }
