@@ -6,3 +6,4 @@ pub mod OperatorLaws
 pub mod OpeningLaws
 pub mod StepLaws
 pub mod AnswerLaws
+pub mod Reading

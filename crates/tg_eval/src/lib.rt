@@ -1,5 +1,5 @@
-//! The limited value of a term: call by value, within bounds. It is defined in `specs/Limited.antt`; the
-//! functions here have no code, and their contracts are the laws.
+//! The limited value of a term: call by value, within bounds. It is defined in `specs/Limited.antt`, which the
+//! evaluator gives exactly. Two functions have no code, and their contracts are the laws.
 #![tactic(auto)]
 
 mod converting;
@@ -12,6 +12,7 @@ mod operating;
 mod tests;
 
 ghost use Rattle.tg_eval.specs.Laws.{LimitedIsValue, LimitedWithoutCalls};
+ghost use Rattle.tg_eval.specs.Reading.{LimitedReadsUsed, LimitedOfSubstituted};
 
 pub use converting::{plain, shared, shared_all};
 pub use held::{Held, Seen};
@@ -23,4 +24,11 @@ pub use limiting::{Limited, limited_truth, limited_value, shared_value};
 pub fn limited_is_value()
     ensures listed { LimitedIsValue }
     ensures no_calls { LimitedWithoutCalls }
+{}
+
+/// The limited value reads the variables that a term uses and no other. Where these are naturals or truth
+/// values, the term with them put in has the same limited value, its levels and calls included.
+pub fn limited_reads_used()
+    ensures used { LimitedReadsUsed }
+    ensures substituted { LimitedOfSubstituted }
 {}
