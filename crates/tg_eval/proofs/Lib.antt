@@ -7,3 +7,4 @@ pub mod OpeningLaws
 pub mod StepLaws
 pub mod AnswerLaws
 pub mod Reading
+pub mod UseLaws

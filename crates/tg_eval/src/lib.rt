@@ -6,10 +6,13 @@ mod converting;
 mod evaluating;
 mod held;
 mod limiting;
+mod making;
 mod opening;
 mod operating;
+mod operations;
 #[cfg(test)]
 mod tests;
+mod using;
 
 ghost use Rattle.tg_eval.specs.Laws.{LimitedIsValue, LimitedWithoutCalls};
 ghost use Rattle.tg_eval.specs.Reading.{LimitedReadsUsed, LimitedOfSubstituted};
@@ -17,6 +20,8 @@ ghost use Rattle.tg_eval.specs.Reading.{LimitedReadsUsed, LimitedOfSubstituted};
 pub use converting::{plain, shared, shared_all};
 pub use held::{Held, Seen};
 pub use limiting::{Limited, limited_truth, limited_value, shared_value};
+pub use operating::same;
+pub use using::uses;
 
 /// In an accepted theory, where a typed term has a limited value, this is its value: on every table that
 /// lists the inputs of all its program calls with the answer that the limited value takes for them, and on
