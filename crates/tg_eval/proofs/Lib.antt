@@ -7,3 +7,5 @@ pub mod OpeningLaws
 pub mod StepLaws
 pub mod AnswerLaws
 pub mod Unnamed
+pub mod Reading
+pub mod UseLaws

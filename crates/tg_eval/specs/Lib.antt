@@ -9,3 +9,4 @@ pub mod Seen
 pub mod Operating
 pub mod Evaluating
 pub mod Answering
+pub mod Reading

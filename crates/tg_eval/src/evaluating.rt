@@ -1,29 +1,25 @@
 //! The evaluator, call by value, exactly within the bounds. `None` is that one was passed.
-ghost use Rattle.std.specs.Prelude.{◌≡◌, ◌∷◌, [], true, false, ℕ, IfOk, OnOk, OnSome, reverse, length, option_map};
+ghost use Rattle.std.specs.Prelude.{◌≡◌, [], IfOk, OnOk, reverse, option_map};
 ghost use Rattle.tg_accept.specs.Declared.{theory};
 ghost use Rattle.tg_declarations.specs.View.{function};
 ghost use Rattle.tg_eval.specs.Evaluating.{outcome, outcomes};
-ghost use Rattle.tg_eval.specs.Operating.{connects};
-ghost use Rattle.tg_eval.specs.Limited.{limited, level_by, all_by, called_by, body_by, small_enough, connected_by, operated_by};
-ghost use Rattle.tg_model.specs.Denotation.{others};
-ghost use Rattle.tg_model.specs.Theory.{recursive, numbered};
-ghost use Rattle.tg_model.specs.Tree.{con, call, put, choice, case, bind, op, one, two, trees};
-ghost use Rattle.tg_model.specs.Value.{made, values};
+ghost use Rattle.tg_eval.specs.Limited.{limited, level_by, all_by, called_by, body_by};
+ghost use Rattle.tg_model.specs.Theory.{recursive};
+ghost use Rattle.tg_model.specs.Tree.{con, call, put, choice, case, bind, op, trees};
 ghost use Rattle.tg_term.specs.Operators.{operator};
 ghost use Rattle.tg_term.specs.View.{arms};
 
 use crate::held::Held;
+use crate::making::{made, taken};
 use crate::opening::{
     add_parts, at, bound_value, datatype_of_place, free_value, part_count, place_in, truth_of,
 };
-use crate::operating::{binary, decided, is_connective, joined, unary, wrong};
+use crate::operating::wrong;
+use crate::operations::operated;
 use std::alloc::{AllocError, Global};
 use tg_declarations::{Body, Declarations, FunDef};
 use tg_term::{Branch, ConId, FunId, Node, OpId, Term};
 use tg_types::DataId;
-
-/// A constructor makes values of at most so many nodes.
-const MOST_NODES: u64 = 100_000;
 
 /// What an evaluation reads: declarations, and what each program call gives.
 #[derive(Clone, Copy, Debug)]
@@ -95,7 +91,7 @@ fn value_at(
 /// The values of terms, from the left.
 #[cycle(value)]
 #[tactic(auto, using(crate::proofs::StepLaws::lists))]
-fn values_of(
+pub(crate) fn values_of(
     given: &Given<'_>,
     run: &mut Run,
     env: &[Held],
@@ -139,18 +135,6 @@ fn constructed(
         return Ok(None);
     };
     made(given.alloc, c, args)
-}
-
-/// A constructor at its arguments, if it isn't too large.
-#[tactic(auto, using(crate::proofs::StepLaws::sizes))]
-fn made(alloc: Global, c: ConId, args: Vec<Held>) -> Result<Option<Held>, AllocError>
-    ensures { IfOk result (λ o. (left : ℕ) → outcome o left ≡ small_enough (made c (values args.items)) left) }
-{
-    let v = Held::con(alloc, c, args)?;
-    if v.nodes() > MOST_NODES {
-        return Ok(None);
-    }
-    Ok(Some(v))
 }
 
 /// The answer of the program, after the values of its inputs.
@@ -369,154 +353,4 @@ fn opened(
     let value = value_of(given, run, env, loc, levels, &branch.body)?;
     loc.truncate(depth);
     Ok(value)
-}
-
-/// The argument at a place, from 1, taken out of the others.
-#[tactic(auto, using(crate::proofs::StepLaws::places))]
-fn taken(args: &mut Vec<Held>, place: u32) -> Option<Held>
-    ensures value { result ≡ numbered args.old.items place }
-    ensures others { OnSome result (args.new.items ≡ others args.old.items place) }
-{
-    let at = (place as usize).checked_sub(1)?;
-    if at < args.len() {
-        Some(args.remove(at))
-    } else {
-        None
-    }
-}
-
-/// An operator at terms. A connective doesn't evaluate its right side where the left one decides.
-#[cycle(value)]
-#[tactic(auto, using(crate::proofs::StepLaws::operators))]
-fn operated(
-    given: &Given<'_>,
-    run: &mut Run,
-    env: &[Held],
-    loc: &mut Vec<Held>,
-    levels: u64,
-    o: OpId,
-    ts: &[Term],
-) -> Result<Option<Held>, AllocError>
-    ensures value { IfOk result (λ r. outcome r run.new.left
-        ≡ level_by (theory [] given.now.declared.now) given.now.answer.now (limited (theory [] given.now.declared.now) given.now.answer.now levels)
-        run.old.left env.now (reverse loc.old.items) (op (operator o) (trees ts.now))) }
-    ensures kept { OnOk result (loc.new.items ≡ loc.old.items) }
-{
-    if ts.len() == 1 {
-        return operated_on_one(given, run, env, loc, levels, o, &ts[0]);
-    }
-    if ts.len() != 2 {
-        return operated_on_others(given, run, env, loc, levels, o, ts);
-    }
-    if is_connective(o) {
-        connected(given, run, env, loc, levels, o, &ts[0], &ts[1])
-    } else {
-        operated_on_two(given, run, env, loc, levels, o, &ts[0], &ts[1])
-    }
-}
-
-/// An operator at one term.
-#[cycle(value)]
-#[tactic(auto, using(crate::proofs::StepLaws::operands))]
-fn operated_on_one(
-    given: &Given<'_>,
-    run: &mut Run,
-    env: &[Held],
-    loc: &mut Vec<Held>,
-    levels: u64,
-    o: OpId,
-    t: &Term,
-) -> Result<Option<Held>, AllocError>
-    ensures value { IfOk result (λ r. outcome r run.new.left
-        ≡ operated_by (theory [] given.now.declared.now) given.now.answer.now (limited (theory [] given.now.declared.now) given.now.answer.now levels)
-        run.old.left env.now (reverse loc.old.items) (operator o) (one t.now)) }
-    ensures kept { OnOk result (loc.new.items ≡ loc.old.items) }
-{
-    match value_of(given, run, env, loc, levels, t)? {
-        Some(v) => Ok(unary(o, &v)),
-        None => Ok(None),
-    }
-}
-
-/// An operator at two terms.
-#[cycle(value)]
-#[tactic(auto, using(crate::proofs::StepLaws::operands))]
-fn operated_on_two(
-    given: &Given<'_>,
-    run: &mut Run,
-    env: &[Held],
-    loc: &mut Vec<Held>,
-    levels: u64,
-    o: OpId,
-    t: &Term,
-    u: &Term,
-) -> Result<Option<Held>, AllocError>
-    ensures value { IfOk result (λ r. outcome r run.new.left
-        ≡ operated_by (theory [] given.now.declared.now) given.now.answer.now (limited (theory [] given.now.declared.now) given.now.answer.now levels)
-        run.old.left env.now (reverse loc.old.items) (operator o) (two t.now u.now)) }
-    ensures kept { OnOk result (loc.new.items ≡ loc.old.items) }
-{
-    let Some(v) = value_of(given, run, env, loc, levels, t)? else {
-        return Ok(None);
-    };
-    match value_of(given, run, env, loc, levels, u)? {
-        Some(w) => Ok(binary(o, &v, &w)),
-        None => Ok(None),
-    }
-}
-
-/// An operator at a number of terms that none has.
-#[cycle(value)]
-#[tactic(auto, using(crate::proofs::StepLaws::operands))]
-fn operated_on_others(
-    given: &Given<'_>,
-    run: &mut Run,
-    env: &[Held],
-    loc: &mut Vec<Held>,
-    levels: u64,
-    o: OpId,
-    ts: &[Term],
-) -> Result<Option<Held>, AllocError>
-    requires one { ¬ (length ts.now ≡ 1) }
-    requires two { ¬ (length ts.now ≡ 2) }
-    ensures value { IfOk result (λ r. outcome r run.new.left
-        ≡ operated_by (theory [] given.now.declared.now) given.now.answer.now (limited (theory [] given.now.declared.now) given.now.answer.now levels)
-        run.old.left env.now (reverse loc.old.items) (operator o) (trees ts.now)) }
-    ensures kept { OnOk result (loc.new.items ≡ loc.old.items) }
-{
-    let Some(_args) = values_of(given, run, env, loc, levels, ts)? else {
-        return Ok(None);
-    };
-    Ok(Some(wrong()))
-}
-
-/// A connective at two terms.
-#[cycle(value)]
-#[tactic(auto, using(crate::proofs::StepLaws::operands))]
-fn connected(
-    given: &Given<'_>,
-    run: &mut Run,
-    env: &[Held],
-    loc: &mut Vec<Held>,
-    levels: u64,
-    o: OpId,
-    t: &Term,
-    u: &Term,
-) -> Result<Option<Held>, AllocError>
-    requires { connects (operator o) ≡ true }
-    ensures value { IfOk result (λ r. outcome r run.new.left
-        ≡ connected_by (theory [] given.now.declared.now) given.now.answer.now (limited (theory [] given.now.declared.now) given.now.answer.now levels)
-        run.old.left env.now (reverse loc.old.items) (operator o) t.now u.now) }
-    ensures kept { OnOk result (loc.new.items ≡ loc.old.items) }
-{
-    let Some(v) = value_of(given, run, env, loc, levels, t)? else {
-        return Ok(None);
-    };
-    if let Some(b) = decided(o, &v) {
-        return Ok(Some(Held::truth(b)));
-    }
-    match value_of(given, run, env, loc, levels, u)? {
-        Some(w) => Ok(Some(joined(o, &v, &w))),
-        None => Ok(None),
-    }
 }

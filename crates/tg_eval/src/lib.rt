@@ -1,21 +1,29 @@
-//! The limited value of a term: call by value, within bounds. It is defined in `specs/Limited.antt`; the
-//! functions here have no code, and their contracts are the laws.
+//! The limited value of a term: call by value, within bounds. It is defined in `specs/Limited.antt`, which the
+//! evaluator gives exactly. Two functions have no code, and their contracts are the laws.
 #![tactic(auto)]
 
 mod converting;
 mod evaluating;
 mod held;
 mod limiting;
+mod making;
 mod opening;
 mod operating;
+mod operations;
+#[cfg(test)]
+mod tests;
 mod theories;
+mod using;
 
 ghost use Rattle.tg_eval.specs.Laws.{LimitedIsValue, LimitedWithoutCalls};
+ghost use Rattle.tg_eval.specs.Reading.{LimitedReadsUsed, LimitedOfSubstituted};
 
 pub use converting::{plain, shared, shared_all};
 pub use held::{Held, Seen};
 pub use limiting::{Limited, limited_truth, limited_value, shared_value};
+pub use operating::same;
 pub use theories::value;
+pub use using::uses;
 
 /// In an accepted theory, where a typed term has a limited value, this is its value: on every table that
 /// lists the inputs of all its program calls with the answer that the limited value takes for them, and on
@@ -23,4 +31,11 @@ pub use theories::value;
 pub fn limited_is_value()
     ensures listed { LimitedIsValue }
     ensures no_calls { LimitedWithoutCalls }
+{}
+
+/// The limited value reads the variables that a term uses and no other. Where these are naturals or truth
+/// values, the term with them put in has the same limited value, its levels and calls included.
+pub fn limited_reads_used()
+    ensures used { LimitedReadsUsed }
+    ensures substituted { LimitedOfSubstituted }
 {}
