@@ -1,5 +1,5 @@
 -- The public answers, of the outcome of the definition.
-use Rattle.std.proofs.Common.{ℕ, ◌≡◌, Bool, true, false, Option, Some, None, refl, ap, sym, ◌∙◌}
+use Rattle.std.proofs.Common.{ℕ, ◌≡◌, false, Option, Some, None, ap}
 use Rattle.std.specs.Prelude.{unwrap_or}
 use Rattle.tg_model.specs.Value.{Value, number, boolean, made}
 use Rattle.tg_eval.specs.Limited.{Outcome}

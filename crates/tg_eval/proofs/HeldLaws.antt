@@ -1,7 +1,6 @@
 -- Lists of values, from a place on.
 use Rattle.std.proofs.Common.{ℕ, zero, suc, ◌≡◌, ◌<◌, ◌+◌, List, [], ◌∷◌, drop, length, get_or, Some, refl, ap, sym, ◌∙◌, add-one, arith}
 use Rattle.std.specs.Prelude.{slice_get}
-use Rattle.tg_model.specs.Value as model
 use Rattle.tg_model.specs.Value.{Value, values, more, elements}
 use Rattle.tg_term.specs.Values.{value-Nat, value-Bool, value-Con}
 use Rattle.tg_term.proofs.PartLaws.{drop_at}

@@ -1,19 +1,15 @@
 -- Values taken apart, and what is looked up.
-use Rattle.std.proofs.Common.{ℕ, zero, suc, ◌≡◌, ◌≢◌, ◌<◌, ◌≤◌, ◌+◌, ◌-◌, List, [], ◌∷◌, ◌++◌, map, length, Option, Some, None, refl, ap, sym, ◌∙◌, arith, ◌⊎◌, inl, inr}
-use Rattle.std.specs.Prelude.{slice_get, option_map, unwrap_or}
+use Rattle.std.proofs.Common.{ℕ, zero, suc, ◌≡◌, ◌≤◌, ◌+◌, List, [], ◌∷◌, map, length, Option, Some, None, refl, ap, sym, ◌∙◌, arith, ◌⊎◌, inl, inr}
+use Rattle.std.specs.Prelude.{slice_get, option_map}
 use Rattle.std.specs.Option.{option_map_or}
 use Rattle.std.proofs.lemmas.Option.{slice_get-map}
 use Rattle.tg_model.specs.Theory.{Datatype, numbered, first_constructor, constructors_before, datatype_of}
-use Rattle.tg_model.specs.Types as model
-use Rattle.tg_model.specs.Value.{Value, number, boolean, made, values, elements}
-use Rattle.tg_model.specs.Denotation.{opened}
 use Rattle.tg_types.specs.Types.{ty, ty-Nat, ty-Bool, ty-Param, ty-Meta, ty-App}
 use Rattle.tg_types.specs.declared.types.Ty.{Ty}
 use Rattle.tg_declarations.specs.Owners.{numbers_from}
 use Rattle.tg_declarations.specs.View.{constructor_numbers, datatype, constructor}
 use Rattle.tg_declarations.specs.declared.definitions.DataDef.{DataDef}
 use Rattle.std.proofs.lemmas.List.{length-map}
-use Rattle.tg_eval.specs.Opening.{parts_of}
 use Rattle.tg_eval.proofs.HeldLaws.{elements_values}
 
 pub first_found : (xs : List Datatype) (d c : ℕ) → slice_get (constructor_numbers xs d) 0 ≡ Some c → c ≡ first_constructor xs d

@@ -1,9 +1,8 @@
 -- The operators by number, on values.
-use Rattle.std.proofs.Common.{ℕ, zero, suc, ◌≡◌, ◌≢◌, ◌<◌, ◌≤◌, ◌/◌, ◌%◌, Bool, true, false, ◌&&◌, not, List, [], ◌∷◌, length, Option, Some, None, refl, ap, sym, ◌∙◌, arith}
-use Rattle.std.specs.Prelude.{nat_lt, nat_le, if◌then◌else◌}
+use Rattle.std.proofs.Common.{ℕ, zero, suc, ◌≡◌, ◌≢◌, ◌<◌, ◌≤◌, ◌/◌, ◌%◌, Bool, true, false, ◌&&◌, List, [], ◌∷◌, length, Some, None, refl, ap, sym, ◌∙◌, arith}
+use Rattle.std.specs.Prelude.{nat_lt}
 use Rattle.tg_model.specs.Tree.{Operator, successor, negation, conjunction, disjunction, implication, equality, less, less_equal, plus, minus, times, divide, modulo, unnamed}
-use Rattle.tg_model.specs.Value as model
-use Rattle.tg_model.specs.Value.{Value, Values, number, boolean, made, values, same_value, same_values, same_truth, wrong}
+use Rattle.tg_model.specs.Value.{Value, number, boolean, made, values, same_value, same_values, wrong}
 use Rattle.tg_model.specs.Denotation.{operated, quotient, remainder, on_number, on_numbers, on_truth, on_truths}
 use Rattle.tg_term.specs.Operators.{operator, operator_number, operator_number-operator}
 use Rattle.std.proofs.lemmas.Bool.{lt-ltb, ltb-true}

@@ -1,22 +1,19 @@
 -- The steps of the definition, as the code takes them.
-use Rattle.std.proofs.Common.{ℕ, zero, suc, ◌≡◌, ◌≢◌, ◌<◌, ◌≤◌, ◌+◌, ◌-◌, Bool, true, false, List, [], ◌∷◌, ◌++◌, map, length, take, drop, reverse, get_or, Option, Some, None, refl, ap, sym, ◌∙◌, arith, add-one}
-use Rattle.std.specs.Prelude.{slice_get, option_map, unwrap_or, nat_eq, nat_lt, nat_le, if◌then◌else◌}
-use Rattle.std.specs.Option.{option_map_or}
-use Rattle.tg_model.specs.Tree as tree
-use Rattle.tg_model.specs.Tree.{Tree, Trees, Arms, Operator, trees, op, one, two, choice, case, successor, negation, conjunction, disjunction, implication, equality, less, less_equal, plus, minus, times, divide, modulo, unnamed}
-use Rattle.tg_model.specs.Value.{Value, number, boolean, made, values, wrong}
-use Rattle.tg_model.specs.Theory.{Theory, Function, numbered, first_constructor}
-use Rattle.tg_model.specs.Denotation.{operated, opened, others, on_number, on_numbers, on_truth, on_truths}
+use Rattle.std.proofs.Common.{ℕ, zero, suc, ◌≡◌, ◌≢◌, ◌<◌, ◌+◌, Bool, true, false, List, [], ◌∷◌, ◌++◌, length, reverse, get_or, Option, Some, None, refl, ap, sym, ◌∙◌, arith}
+use Rattle.std.specs.Prelude.{slice_get, option_map, nat_eq, nat_lt, if◌then◌else◌}
+use Rattle.tg_model.specs.Tree.{Tree, Arms, Operator, trees, op, choice, case, successor, negation, conjunction, disjunction, implication, equality, less, less_equal, plus, minus, times, divide, modulo, unnamed}
+use Rattle.tg_model.specs.Value.{Value, number, boolean, made, wrong}
+use Rattle.tg_model.specs.Theory.{Theory, first_constructor}
+use Rattle.tg_model.specs.Denotation.{operated, opened, on_number, on_numbers, on_truth, on_truths}
 use Rattle.std.proofs.lemmas.Bool.{lt-ltb, eq-eqb, ne_eqb}
 use Rattle.std.proofs.lemmas.List.{reverse-append}
 use Rattle.tg_model.proofs.Booleans.{if_true, if_false}
-use Rattle.tg_term.proofs.PartLaws.{drop_at}
-use Rattle.tg_eval.specs.Limited.{Outcome, Evaluator, limited, level_by, all_by, called_by, body_by, then_value, then_more, chosen_by, branch_by, opened_by, with_first, small_enough, below_bound, value_nodes, operated_by, connected_by, with_first, then_values}
+use Rattle.tg_eval.specs.Limited.{Outcome, Evaluator, limited, level_by, all_by, then_value, then_more, chosen_by, branch_by, opened_by, with_first, below_bound, operated_by, with_first, then_values}
 use Rattle.tg_eval.specs.Evaluating.{outcome, outcomes}
 use Rattle.tg_eval.specs.Opening.{truth_of, parts_of}
 use Rattle.tg_term.specs.View.{arms}
 use Rattle.tg_term.specs.declared.terms.Branch.{Branch}
-use Rattle.tg_eval.specs.Operating.{bounded, connects}
+use Rattle.tg_eval.specs.Operating.{bounded}
 
 pub limited_none : (th : Theory) (answer : Value) (levels left : ℕ) (env loc : List Value) (t : Tree) → levels ≡ 0 → None ≡ limited th answer levels left env loc t
 unfolding limited

@@ -1,5 +1,5 @@
 -- What the public calls answer, of the outcome of the definition.
-use Rattle.std.specs.Prelude.{Bool, true, false, Option, Some, None, option_map}
+use Rattle.std.specs.Prelude.{Bool, false, Option, Some, None, option_map}
 use Rattle.tg_model.specs.Value as model
 use Rattle.tg_model.specs.Value.{boolean}
 use Rattle.tg_term.specs.Values.{value}

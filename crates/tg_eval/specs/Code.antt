@@ -1,5 +1,5 @@
 -- How the logic stores a value: as a tree of numbers that gives it back.
-use Rattle.std.specs.Prelude.{◌≡◌, ℕ, zero, suc, Bool, true, false, refl}
+use Rattle.std.specs.Prelude.{◌≡◌, true, false, refl}
 use Rattle.std.proofs.Common.{ap, sym, ◌∙◌}
 use base.Stored.{Gv, gnil, gnum, gcons, Coded}
 use Rattle.tg_model.specs.Value.{Value, Values, number, boolean, made, none, more}

@@ -1,9 +1,7 @@
 -- What the code answers, as an outcome of the definition.
-use Rattle.std.specs.Prelude.{ℕ, List, Option, Some, None, unwrap_or, option_map}
-use Rattle.tg_model.specs.Value.{Value, wrong}
-use Rattle.tg_accept.specs.Declared.{Declared, theory}
-use Rattle.tg_model.specs.Tree.{Trees}
-use Rattle.tg_eval.specs.Limited.{Outcome, Evaluator, limited, level_by, all_by}
+use Rattle.std.specs.Prelude.{ℕ, List, Option, Some, None}
+use Rattle.tg_model.specs.Value.{Value}
+use Rattle.tg_eval.specs.Limited.{Outcome}
 
 -- a value and the calls that are left, or nothing
 abbrev pub outcome : Option Value → ℕ → Outcome

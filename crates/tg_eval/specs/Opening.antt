@@ -1,5 +1,5 @@
 -- What stands below a value.
-use Rattle.std.specs.Prelude.{ℕ, zero, suc, Bool, List, [], ◌∷◌, Option, Some, None}
+use Rattle.std.specs.Prelude.{zero, suc, Bool, List, [], ◌∷◌, Option, Some, None}
 use Rattle.tg_model.specs.Value.{Value, number, boolean, made, elements}
 
 -- what a branch of a `case` gets: the number before a natural, or the arguments of a constructor

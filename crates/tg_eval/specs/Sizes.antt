@@ -1,8 +1,7 @@
 -- What a value knows of itself, and how its last handle is dropped within a bounded stack.
-use Rattle.std.specs.Prelude.{ℕ, ◌≡◌, ◌≤◌, ◌+◌, max, min}
+use Rattle.std.specs.Prelude.{ℕ, ◌+◌, max, min}
 use Rattle.tg_model.specs.Value as model
 use Rattle.tg_model.specs.Value.{Value, Values, number, boolean, made}
-use Rattle.tg_eval.specs.Limited.{value_nodes}
 
 -- the most steps from a value down to a natural, a truth value or a constructor without arguments
 abbrev mutual

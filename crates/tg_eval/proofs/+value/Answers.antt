@@ -1,9 +1,9 @@
-use Rattle.std.proofs.Common.{rules, ◌≡◌, ◌≢◌, [], Some, None, ap, sym, ◌∙◌, subst, arith, length, refl, reverse, option_map, IfOk}
+use Rattle.std.proofs.Common.{◌≡◌, [], Some, ap, sym, ◌∙◌, subst, reverse, option_map, IfOk}
 use Rattle.tg_accept.specs.Declared.{theory}
 use Rattle.tg_term.specs.Operators.{operator}
 use Rattle.tg_eval.specs.Evaluating.{outcome}
 use Rattle.tg_eval.specs.Limited.{limited}
-use Rattle.tg_eval.proofs.StepLaws.{choice_short, chosen_over, chosen_true, chosen_false, chosen_wrong, case_no_branch, case_other, case_taken, op_others, operated_wrong}
+use Rattle.tg_eval.proofs.StepLaws.{choice_short, chosen_over, chosen_true, chosen_wrong, case_no_branch, case_other, case_taken, op_others, operated_wrong}
 use Rattle.tg_eval.proofs.+value.Goals as goal
 
 pub evaluating::chosen-returns-then-ts-ne3-clause-value : goal.evaluating::chosen-returns-then-ts-ne3-clause-value
