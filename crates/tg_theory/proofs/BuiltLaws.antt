@@ -1,5 +1,5 @@
 -- What a builder keeps stays with each declaration.
-use Rattle.std.proofs.Common.{ℕ, ◌≡◌, Bool, true, false, not, ◌||◌, ◌&&◌, List, [], ◌∷◌, ◌++◌, map, length, take, Option, Some, None, is_some, is_none, refl, sym, ◌∙◌, ap, subst, append_assoc, if◌then◌else◌}
+use Rattle.std.proofs.Common.{◌≡◌, Bool, true, false, not, ◌||◌, ◌&&◌, List, [], ◌∷◌, ◌++◌, map, length, take, Option, Some, None, is_some, is_none, refl, sym, ◌∙◌, ap, subst, append_assoc, if◌then◌else◌}
 use Rattle.std.specs.List.{list_any}
 use Rattle.std.proofs.lemmas.List.{append-nil, map-append, length-map}
 use Rattle.tg_model.specs.Tree.{Tree}
@@ -13,7 +13,7 @@ use Rattle.tg_declarations.specs.declared.definitions.FunDef.{FunDef}
 use Rattle.tg_declarations.specs.declared.definitions.ProgDef.{ProgDef}
 use Rattle.tg_declarations.specs.View.{datatype, function, body, program as program_of}
 use Rattle.tg_accept.specs.Declared.{Declared, theory, nothing, with_datatype, with_function, with_program, with_specification}
-use Rattle.tg_accept.specs.Kept.{IsKept, names_of_types, names_of_values, name_of_program}
+use Rattle.tg_accept.specs.Kept.{names_of_types, names_of_values, name_of_program}
 use Rattle.tg_accept.specs.Faults.{Fault, name, shape, program, is_taken, is_body_shaped, from_one_to_eight, has_parameter, datatype_fault, function_fault, program_fault, specification_fault}
 use Rattle.tg_accept.specs.Meant.{IsDatatypeMeant, IsFunctionMeant, IsProgramMeant, IsSpecificationMeant}
 use Rattle.tg_accept.proofs.KeptTheories.{nothing_is_kept, datatypes_keep, functions_keep, programs_keep, specifications_keep}

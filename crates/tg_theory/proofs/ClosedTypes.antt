@@ -1,15 +1,14 @@
 -- What the tests of types tell.
-use Rattle.std.proofs.Common.{ℕ, ◌≡◌, ◌↔◌, Bool, true, false, ◌&&◌, nat_eq, List, [], ◌∷◌, map, length, Option, Some, None, refl, sym, ◌∙◌, ap, subst, inl, inr}
+use Rattle.std.proofs.Common.{ℕ, ◌≡◌, Bool, true, false, ◌&&◌, nat_eq, List, [], length, Option, Some, None, refl, sym, ◌∙◌, ap, inl, inr}
 use Rattle.std.specs.Option.{option_map_or}
 use Rattle.std.proofs.lemmas.Bool.Decides.{eqb_tells}
-use Rattle.std.proofs.lemmas.List.{length-map}
 use Rattle.tg_model.specs.Types as types
 use Rattle.tg_model.specs.Types.{Ty, Tys, nat, bool, parameter, meta, applied}
 use Rattle.tg_model.specs.Theory.{Theory, Datatype, numbered, IsClosed, AreClosed}
 use Rattle.tg_model.proofs.Booleans.{and_left, and_right, and_both}
 use Rattle.tg_accept.specs.Declared.{Declared, theory}
 use Rattle.tg_types.specs.declared.types.Ty as declared
-use Rattle.tg_types.specs.Types.{ty, types as types_of}
+use Rattle.tg_types.specs.Types.{types as types_of}
 use Rattle.tg_shared_types.specs.Growth.{IsDeclared, AreDeclared}
 use Rattle.tg_declarations.specs.declared.definitions.DataDef.{DataDef}
 use Rattle.tg_declarations.specs.View.{datatype}

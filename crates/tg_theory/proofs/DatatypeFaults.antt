@@ -1,11 +1,10 @@
 -- The first fault of a datatype.
-use Rattle.std.proofs.Common.{ℕ, suc, ◌≡◌, ◌+◌, Bool, true, false, not, List, [], ◌∷◌, ◌++◌, map, length, Option, Some, None, refl, sym, ◌∙◌, ap, subst, arith, if◌then◌else◌}
-use Rattle.std.specs.Prelude.{option_map}
+use Rattle.std.proofs.Common.{ℕ, suc, ◌≡◌, ◌+◌, true, false, List, [], ◌∷◌, map, length, Option, Some, None, refl, sym, ◌∙◌, ap, subst, arith, if◌then◌else◌}
 use Rattle.std.specs.Option.{option_map_or}
 use Rattle.tg_model.specs.Theory.{Datatype, Constructor}
 use Rattle.tg_accept.specs.Declared.{Declared}
 use Rattle.tg_accept.specs.Kept.{names_of_types, names_of_values}
-use Rattle.tg_accept.specs.Faults.{Fault, name, shape, program, is_taken, first_taken, is_datatype_shaped, datatype_fault}
+use Rattle.tg_accept.specs.Faults.{Fault, name, shape, is_taken, first_taken, is_datatype_shaped, datatype_fault}
 use Rattle.tg_declarations.specs.declared.definitions.ConDef.{ConDef}
 use Rattle.tg_declarations.specs.declared.definitions.DataDef.{DataDef}
 use Rattle.tg_declarations.specs.View.{constructor, datatype}

@@ -7,7 +7,7 @@ use Rattle.tg_model.specs.Tree as tree
 use Rattle.tg_model.specs.Tree.{Tree, Trees, Arms}
 use Rattle.tg_model.specs.Types.{Ty}
 use Rattle.tg_model.specs.Theory.{Theory, Datatype, Constructor, Function}
-use Rattle.tg_model.specs.TermTyping.{Typing, Typings, ArmTypings, leaf, instanced, compound, branching, binding, none, more, end, arm, type_of, IsTyping, IsTyped}
+use Rattle.tg_model.specs.TermTyping.{Typing, Typings, ArmTypings, instanced, compound, branching, binding, none, more, end, arm, type_of, IsTyping}
 use Rattle.tg_model.specs.TypeLaws.{AreBranchSizes, branch_sizes, EachCase, EachCases, EachCaseOf}
 use Rattle.tg_model.proofs.Constructors.{cases_are_declared}
 use Rattle.tg_model.proofs.Booleans.{and_left, and_right}
@@ -17,7 +17,7 @@ use Rattle.tg_accept.specs.Resolved.{Head, Resolved}
 use Rattle.tg_accept.specs.ResolvedTyping.{IsTypingOf, AreTypingsOf, AreBranchTypings}
 use Rattle.tg_accept.proofs.Again.{resolved_again_typed, typed_again}
 use Rattle.tg_accept.proofs.Aligned.{as_many}
-use Rattle.tg_theory.specs.Embedded.{same_sizes, sizes_of, are_sizes, embedded, all_embedded, branches_embedded}
+use Rattle.tg_theory.specs.Embedded.{same_sizes, are_sizes, embedded, all_embedded, branches_embedded}
 
 equal : (m n : ℕ) → nat_eq m n ≡ true → m ≡ n
 equal m n e = elim (eqb_tells m n) [ inl p ↦ p.1 | inr p ↦ (let q : true ≡ false = sym e ∙ p.0 in cc q) ]

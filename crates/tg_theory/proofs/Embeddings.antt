@@ -1,10 +1,9 @@
 -- What embedding a term leans on.
-use Rattle.std.proofs.Common.{ℕ, zero, suc, ◌≡◌, ◌<◌, ◌+◌, Bool, true, false, ◌&&◌, nat_eq, List, [], ◌∷◌, ◌++◌, map, take, drop, length, Option, Some, None, refl, sym, ◌∙◌, ap, subst, inl, inr, arith, if◌then◌else◌}
+use Rattle.std.proofs.Common.{ℕ, zero, suc, ◌≡◌, ◌+◌, Bool, true, false, ◌&&◌, nat_eq, List, [], ◌∷◌, ◌++◌, map, drop, length, Option, Some, None, refl, sym, ◌∙◌, ap, subst, inl, inr, arith, if◌then◌else◌}
 use Rattle.std.specs.Prelude.{slice_get, option_map}
 use Rattle.std.specs.Option.{option_map_or}
 use Rattle.std.proofs.lemmas.Bool.Decides.{eqb_tells}
 use Rattle.std.proofs.lemmas.List.{length-map, map-append, append_assoc, append-nil}
-use Rattle.std.proofs.lemmas.Option.{slice_get-map}
 use Rattle.tg_model.specs.Tree.{Tree, trees, case}
 use Rattle.tg_model.specs.Theory as model
 use Rattle.tg_model.specs.Theory.{Theory, numbered, first_constructor}
@@ -23,11 +22,11 @@ use Rattle.tg_declarations.specs.declared.definitions.DataDef.{DataDef}
 use Rattle.tg_declarations.specs.Owners.{numbers_from}
 use Rattle.tg_declarations.specs.View.{datatype, constructor, constructor_numbers}
 use Rattle.tg_typing.specs.declared.resolved.Resolved.{Resolved}
-use Rattle.tg_typing.specs.declared.resolved.Resolved.TheVariants.{Bound, Free, Lit, Truth, Con, Call, Misused, Put, If, Case, Let, Op}
+use Rattle.tg_typing.specs.declared.resolved.Resolved.TheVariants.{Con, Call, Misused, Put, If, Case, Let, Op}
 use Rattle.tg_typing.specs.declared.resolved.Branch as resolved_branch
 use Rattle.tg_typing.specs.View.{Seen, head, seen, listed, branched, resolved, all_resolved, branches, seen-Branch}
 use Rattle.tg_typing.specs.View.{resolved-Bound, resolved-Free, resolved-Lit, resolved-Truth, resolved-Con, resolved-Call, resolved-Misused, resolved-Put, resolved-If, resolved-Case, resolved-Let, resolved-Op}
-use Rattle.tg_theory.specs.Embedded.{same_sizes, sizes_of, are_sizes, embedded, all_embedded, branches_embedded}
+use Rattle.tg_theory.specs.Embedded.{same_sizes, are_sizes, embedded, all_embedded, branches_embedded}
 
 -- ---- lists of terms
 

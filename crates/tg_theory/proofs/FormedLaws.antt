@@ -1,5 +1,5 @@
 -- What counts of typings say of terms and formulas.
-use Rattle.std.proofs.Common.{ℕ, zero, suc, ◌≡◌, ◌≤◌, ◌+◌, ◌↔◌, Bool, true, false, List, [], ◌∷◌, ◌++◌, map, reverse, length, take, drop, Option, Some, None, refl, sym, ◌∙◌, ap, subst, arith}
+use Rattle.std.proofs.Common.{ℕ, zero, suc, ◌≡◌, ◌≤◌, ◌+◌, ◌↔◌, Bool, true, false, List, [], ◌∷◌, ◌++◌, map, reverse, length, drop, Some, None, refl, sym, ◌∙◌, ap, subst, arith}
 use Rattle.std.proofs.Math.Path.{transport}
 use Rattle.std.specs.Prelude.{slice_get, unwrap_or}
 use Rattle.std.proofs.lemmas.List.{append-nil, map-append, reverse-append, drop_all}
@@ -7,8 +7,8 @@ use Rattle.tg_model.specs.Tree as tree
 use Rattle.tg_model.specs.Tree.{Tree, Trees, trees}
 use Rattle.tg_model.specs.Formula.{Formula, atom, both, implies, all, some, thyp, tested, deep}
 use Rattle.tg_model.specs.Types.{Ty, bool, tys}
-use Rattle.tg_model.specs.Theory.{Theory, Function, IsClosed, AreClosed}
-use Rattle.tg_model.specs.TermTyping.{Typing, type_of, IsTyping, IsTyped, AllTyped, IsWellFormed}
+use Rattle.tg_model.specs.Theory.{Theory, IsClosed, AreClosed}
+use Rattle.tg_model.specs.TermTyping.{Typing, IsTyped, AllTyped, IsWellFormed}
 use Rattle.tg_accept.specs.Declared.{Declared, theory, no_program}
 use Rattle.tg_declarations.specs.declared.definitions.ProgDef.{ProgDef}
 use Rattle.tg_declarations.specs.View.{program}
@@ -25,7 +25,7 @@ use Rattle.tg_theory.proofs.ClosedTypes.{declared_if, all_declared_if, is_declar
 use Rattle.tg_typing.specs.Contexts.{HasClosedTypes}
 use Rattle.tg_typing.specs.declared.typings.Typings.{Typings}
 use Rattle.tg_typing.specs.declared.typings.Typings.TheVariants as typings
-use Rattle.tg_typing.specs.Answers.{Counts, IsTypingAt, own_parameters}
+use Rattle.tg_typing.specs.Answers.{Counts, IsTypingAt}
 use Rattle.tg_typing.proofs.ClosedTypes.{kept_types_are_closed}
 use Rattle.tg_accept.specs.Resolved.{Resolved}
 use Rattle.tg_theory.specs.Embedded.{embedded}

@@ -1,9 +1,8 @@
 -- A whole theory is accepted.
 use Rattle.std.proofs.Common.{ℕ, ◌≡◌, List, ◌∷◌, [], ◌++◌, map, Option, Some, None, refl, sym, ◌∙◌, ap, subst}
 use Rattle.std.specs.Prelude.{IsSome, unwrap_or}
-use Rattle.tg_model.specs.Tree.{Tree}
-use Rattle.tg_model.specs.Theory.{Datatype, Function, Program}
-use Rattle.tg_model.specs.Accepted.{IsAccepted, constructor_names, type_names, value_names}
+use Rattle.tg_model.specs.Theory.{Function, Program}
+use Rattle.tg_model.specs.Accepted.{IsAccepted, constructor_names, value_names}
 use Rattle.tg_accept.specs.Declared.{Declared, theory, no_program}
 use Rattle.tg_accept.specs.Kept.{names_of_values, name_of_program}
 use Rattle.tg_accept.proofs.KeptTheories.{whole_is_accepted}

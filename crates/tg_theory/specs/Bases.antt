@@ -1,5 +1,5 @@
 -- The constructor that makes a datatype's least value.
-use Rattle.std.specs.Prelude.{ℕ, zero, suc, List, [], ◌∷◌, Option, Some, None, option_map, if◌then◌else◌}
+use Rattle.std.specs.Prelude.{ℕ, suc, List, [], ◌∷◌, Option, Some, None, option_map, if◌then◌else◌}
 use Rattle.tg_model.specs.Theory.{Constructor}
 use Rattle.tg_accept.specs.Faults.{is_base}
 

@@ -1,5 +1,5 @@
 -- How the logic stores a theory.
-use Rattle.std.specs.Prelude.{◌≡◌, ℕ, List, refl}
+use Rattle.std.specs.Prelude.{ℕ, List, refl}
 use Rattle.std.specs.Coded.{Coded, code_by, coded×, coded_ℕ, coded_list}
 use Rattle.tg_model.specs.Tree.{Tree}
 use Rattle.tg_model.specs.Theory.{Theory, Datatype, Function, Program}

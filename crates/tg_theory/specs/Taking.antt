@@ -1,5 +1,5 @@
 -- Names that a declaration takes.
-use Rattle.std.specs.Prelude.{ℕ, ◌≡◌, List, [], ◌∷◌, ◌++◌, map, Option, Some, None, option_map}
+use Rattle.std.specs.Prelude.{ℕ, ◌≡◌, List, ◌++◌, map, Option, option_map}
 use Rattle.tg_accept.specs.Faults.{Fault, name}
 use Rattle.tg_declarations.specs.declared.definitions.ConDef.{ConDef}
 

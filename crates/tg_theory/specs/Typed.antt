@@ -1,5 +1,5 @@
 -- What is told of typings.
-use Rattle.std.specs.Prelude.{◌≡◌, Bool, true, false, ◌&&◌, nat_eq, List, [], map, length}
+use Rattle.std.specs.Prelude.{Bool, true, false, ◌&&◌, nat_eq, List, [], map, length}
 use Rattle.std.specs.Option.{option_map_or}
 use Rattle.tg_model.specs.Tree.{Tree}
 use Rattle.tg_model.specs.Formula.{Formula}

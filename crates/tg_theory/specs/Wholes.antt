@@ -1,5 +1,5 @@
 -- What a theory keeps.
-use Rattle.std.specs.Prelude.{ℕ, ◌≡◌, List, Option, Some, IsSome}
+use Rattle.std.specs.Prelude.{ℕ, List, IsSome}
 use Rattle.tg_model.specs.Theory.{Theory}
 use Rattle.tg_model.specs.Accepted.{type_names, value_names}
 use Rattle.tg_accept.specs.Declared.{Declared}

@@ -1,9 +1,9 @@
-use Rattle.std.proofs.Common.{◌≡◌, ◌+◌, ◌++◌, ◌∷◌, [], Some, true, false, take, drop, subst, sym, ap, refl, ◌∙◌, rules}
+use Rattle.std.proofs.Common.{◌≡◌, ◌++◌, ◌∷◌, [], Some, true, false, sym, ap, refl, ◌∙◌, rules}
 use Rattle.std.proofs.lemmas.Option.{slice_get_read}
-use Rattle.std.specs.Prelude.{option_map, slice_get}
-use Rattle.tg_accept.specs.Faults.{is_taken, first_taken, name}
-use Rattle.tg_theory.specs.Taking.{constructor_names, name_fault}
-use Rattle.tg_theory.proofs.Taken.{HasTaken, take_next, taken_here, next_names, all_names}
+use Rattle.std.specs.Prelude.{slice_get}
+use Rattle.tg_accept.specs.Faults.{is_taken, name}
+use Rattle.tg_theory.specs.Taking.{name_fault}
+use Rattle.tg_theory.proofs.Taken.{next_names, all_names}
 use Rattle.tg_theory.proofs.adding.take_constructors.Goals as goal
 
 pub returns-then-not-branch-clause-cause : goal.returns-then-not-branch-clause-cause

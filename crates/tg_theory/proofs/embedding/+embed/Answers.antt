@@ -1,4 +1,4 @@
-use Rattle.std.proofs.Common.{◌≡◌, ◌∙◌, ◌++◌, ◌∷◌, [], sym, ap, map, take, drop, Some, None, refl, arith, rules}
+use Rattle.std.proofs.Common.{◌≡◌, ◌∙◌, [], ap, map, take, drop, Some, None, refl, arith, rules}
 use Rattle.std.proofs.lemmas.List.{take_all, drop_all}
 use Rattle.std.specs.Prelude.{slice_get}
 use Rattle.std.proofs.lemmas.Option.{slice_get_read}

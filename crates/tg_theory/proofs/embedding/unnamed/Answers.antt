@@ -1,5 +1,4 @@
-use Rattle.std.proofs.Common.{◌≡◌, ◌∙◌, ◌++◌, ◌∷◌, [], ap, rules}
-use Rattle.tg_accept.specs.Core.{unnamed}
+use Rattle.std.proofs.Common.{◌∙◌, ◌++◌, ◌∷◌, [], ap}
 use Rattle.tg_theory.proofs.Embeddings.{unnamed_more}
 use Rattle.tg_theory.proofs.embedding.unnamed.Goals as goal
 

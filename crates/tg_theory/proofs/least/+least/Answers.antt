@@ -1,12 +1,11 @@
-use Rattle.std.proofs.Common.{◌≡◌, ◌≤◌, ◌<◌, ◌-◌, suc, Some, None, false, length, map, sym, ◌∙◌, ap, subst, arith, rules}
+use Rattle.std.proofs.Common.{◌≡◌, ◌-◌, None, map, sym, ◌∙◌, ap, arith}
 use Rattle.std.specs.Prelude.{slice_get}
 use Rattle.tg_model.specs.Types.{parameter, applied, tys}
-use Rattle.tg_model.specs.Theory.{numbered}
 use Rattle.tg_model.specs.Typing.{least_at, least_below}
 use Rattle.tg_model.proofs.Places.{none_past}
 use Rattle.tg_types.specs.Types.{ty, ty-Param, ty-App}
 use Rattle.tg_term.specs.Values.{value}
-use Rattle.tg_declarations.specs.View.{constructor, constructor_numbers}
+use Rattle.tg_declarations.specs.View.{constructor}
 use Rattle.tg_theory.specs.Bases.{first_base}
 use Rattle.tg_theory.proofs.LeastLaws.{parameter_there, parameter_missing, least_of_data, undeclared, without_base, with_base, place_of_base, numbers_reach}
 use Rattle.tg_theory.proofs.least.+least.Goals as goal

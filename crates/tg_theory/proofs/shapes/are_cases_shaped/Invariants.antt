@@ -1,4 +1,4 @@
-use Rattle.std.proofs.Common.{◌≡◌, map, drop, length}
+use Rattle.std.proofs.Common.{◌≡◌, map, drop}
 use Rattle.tg_accept.specs.Faults.{are_cases_shaped}
 use Rattle.tg_theory.specs.Matched.{recursive_of}
 use Rattle.tg_theory.proofs.shapes.are_cases_shaped.Given as goal

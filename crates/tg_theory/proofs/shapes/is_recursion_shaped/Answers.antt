@@ -1,4 +1,4 @@
-use Rattle.std.proofs.Common.{◌∙◌, ap, sym, refl, ◌-◌, true, [], ◌∷◌, length, map}
+use Rattle.std.proofs.Common.{◌∙◌, ap, refl, ◌-◌, true, [], ◌∷◌, length, map}
 use Rattle.tg_model.specs.Theory.{numbered}
 use Rattle.tg_model.specs.Types.{bool, parameter, meta, tys}
 use Rattle.tg_types.specs.Types.{ty, ty-Nat, ty-Bool, ty-Param, ty-Meta, ty-App}

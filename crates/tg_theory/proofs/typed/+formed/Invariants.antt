@@ -1,4 +1,4 @@
-use Rattle.std.proofs.Common.{ℕ, ◌+◌, ◌*◌, max}
+use Rattle.std.proofs.Common.{◌+◌, ◌*◌, max}
 use Rattle.tg_term.specs.FormulaMeasures.{formula_height}
 use Rattle.tg_theory.proofs.typed.+formed.Given as goal
 

@@ -1,11 +1,9 @@
-use Rattle.std.proofs.Common.{◌≡◌, ◌↔◌, [], true, false, map, reverse, Some, refl, sym, subst, arith, rules}
+use Rattle.std.proofs.Common.{◌≡◌, [], map, reverse, Some, refl, arith}
 use Rattle.std.specs.Prelude.{slice_get}
 use Rattle.std.proofs.lemmas.Option.{slice_get_read}
-use Rattle.tg_model.specs.TermTyping.{IsTyped, AllTyped}
-use Rattle.tg_model.specs.Tree.{trees}
 use Rattle.tg_accept.specs.Declared.{theory}
 use Rattle.tg_types.specs.Types.{ty}
-use Rattle.tg_theory.proofs.FormedLaws.{declared_at, uneven, typed_next, not_typed, all_typed}
+use Rattle.tg_theory.proofs.FormedLaws.{declared_at, uneven}
 use Rattle.tg_theory.proofs.typed.are_typed.Goals as goal
 
 pub returns-then-ts-at : goal.returns-then-ts-at

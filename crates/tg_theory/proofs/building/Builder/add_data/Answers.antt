@@ -1,4 +1,4 @@
-use Rattle.std.proofs.Common.{◌≡◌, ◌++◌, ◌∷◌, [], None, subst, sym, ap, ◌∙◌, rules}
+use Rattle.std.proofs.Common.{◌≡◌, ◌++◌, ◌∷◌, [], None, rules}
 use Rattle.tg_accept.specs.Declared.{with_datatype}
 use Rattle.tg_accept.specs.Faults.{datatype_fault}
 use Rattle.tg_accept.specs.Meant.{IsDatatypeMeant}

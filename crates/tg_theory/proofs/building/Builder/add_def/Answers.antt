@@ -1,8 +1,7 @@
-use Rattle.std.proofs.Common.{◌≡◌, ◌++◌, ◌∷◌, [], true, false, subst, sym, ap, ◌∙◌, rules}
+use Rattle.std.proofs.Common.{◌≡◌, ◌++◌, ◌∷◌, [], true, false, rules}
 use Rattle.std.specs.List.{list_any}
 use Rattle.tg_model.specs.Accepted.{bodies}
 use Rattle.tg_model.specs.Calls.{has_call}
-use Rattle.tg_accept.specs.Declared.{with_function}
 use Rattle.tg_accept.specs.Faults.{is_taken, is_body_shaped}
 use Rattle.tg_accept.specs.Meant.{IsFunctionMeant}
 use Rattle.tg_declarations.specs.View.{function, body}

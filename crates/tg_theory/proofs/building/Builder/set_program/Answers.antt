@@ -1,7 +1,6 @@
-use Rattle.std.proofs.Common.{◌≡◌, ◌++◌, ◌∷◌, [], ◌&&◌, true, false, not, is_some, length, map, subst, sym, ap, ◌∙◌, rules}
+use Rattle.std.proofs.Common.{◌≡◌, ◌++◌, ◌∷◌, [], ◌&&◌, true, false, not, is_some, length, map, rules}
 use Rattle.std.specs.List.{list_any}
 use Rattle.tg_types.specs.Types.{ty}
-use Rattle.tg_accept.specs.Declared.{with_program}
 use Rattle.tg_accept.specs.Faults.{is_taken, from_one_to_eight, has_parameter}
 use Rattle.tg_accept.specs.Meant.{IsProgramMeant}
 use Rattle.tg_declarations.specs.View.{program}

@@ -1,5 +1,5 @@
-use Rattle.std.proofs.Common.{◌≡◌, [], Some, None, true, is_none, subst, sym, ap, ◌∙◌, rules}
-use Rattle.tg_accept.specs.Declared.{theory, with_specification}
+use Rattle.std.proofs.Common.{◌≡◌, [], true, is_none, subst, sym, rules}
+use Rattle.tg_accept.specs.Declared.{theory}
 use Rattle.tg_accept.specs.Faults.{specification_fault}
 use Rattle.tg_accept.specs.Meant.{IsSpecificationMeant}
 use Rattle.tg_theory.specs.Built.{IsBuilt}

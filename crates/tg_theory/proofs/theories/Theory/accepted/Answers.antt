@@ -1,6 +1,6 @@
-use Rattle.std.proofs.Common.{◌≡◌, subst, sym, rules}
+use Rattle.std.proofs.Common.{subst}
 use Rattle.tg_model.specs.Accepted.{IsAccepted}
-use Rattle.tg_theory.proofs.WholeLaws.{whole_accepted, whole_written}
+use Rattle.tg_theory.proofs.WholeLaws.{whole_accepted}
 use Rattle.tg_theory.proofs.theories.Theory.accepted.Goals as goal
 
 pub returns-clause-accepted : goal.returns-clause-accepted
