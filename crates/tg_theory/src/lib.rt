@@ -10,6 +10,8 @@ mod errors;
 mod least;
 mod names;
 mod shapes;
+#[cfg(test)]
+mod tests;
 mod theories;
 mod typed;
 mod types;
