@@ -1,3 +1,6 @@
 pub mod SizeLaws
 pub mod NumberLaws
 pub mod TypeLaws
+pub mod BinderLaws
+pub mod WordLaws
+pub mod ScopeLaws

@@ -1,1 +1,4 @@
 pub mod View
+pub mod Binders
+pub mod Words
+pub mod Scopes

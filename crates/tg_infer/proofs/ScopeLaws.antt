@@ -1,0 +1,25 @@
+-- What the names in a scope are.
+use Rattle.std.proofs.Common.{ℕ, suc, ◌≡◌, ◌+◌, Bool, true, false, not, ◌||◌, ◌&&◌, nat_eq, List, [], ◌∷◌, ◌++◌, length, Option, Some, None, refl, sym, ◌∙◌, ap, if◌then◌else◌}
+use Rattle.std.specs.Map.{lookup}
+use Rattle.std.specs.Str.{bytes_eq}
+use Rattle.tg_accept.specs.Declared.{Declared}
+use Rattle.tg_accept.specs.Faults.{is_taken}
+use Rattle.tg_accept.specs.Kept.{names_of_values}
+use Rattle.tg_accept.specs.Meaning.{variable_named, constructor_named, number_of}
+use Rattle.tg_theory.proofs.Taken.{taken_append}
+use Rattle.tg_infer.specs.declared.words.Words.{Words}
+use Rattle.tg_infer.specs.Words.{AreWordsOf, values_in}
+use Rattle.tg_infer.proofs.BinderLaws.{binders_length}
+use Rattle.tg_infer.proofs.WordLaws.{same_values, same_constructor, taken_one}
+
+pub named_is : (x : List ℕ) (vs : List (List ℕ × ℕ)) → variable_named x vs ≡ lookup (bytes_eq x) vs
+named_is x [] = refl
+named_is x (v ∷ vs) = ap (λ o. if bytes_eq x v.0 then Some v.1 else o) (named_is x vs)
+
+pub ruleset variables = (named_is)
+
+pub taken_names : (w : Words) (D : Declared) (x : List ℕ) (own : List (List ℕ)) → AreWordsOf w D
+    → is_taken x (names_of_values D ++ own) ≡ (is_taken x (values_in w) || is_taken x own)
+taken_names w D x own h = taken_append x (names_of_values D) own ∙ ap (λ l. is_taken x l || is_taken x own) (sym (same_values w D h))
+
+pub ruleset scopes = (taken_names, taken_one, same_constructor, binders_length)
