@@ -4,3 +4,5 @@ pub mod TypeLaws
 pub mod BinderLaws
 pub mod WordLaws
 pub mod ScopeLaws
+pub mod UseLaws
+pub mod EnteringLaws

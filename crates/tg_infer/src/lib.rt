@@ -2,10 +2,12 @@
 #![tactic(auto)]
 
 mod binders;
+mod entering;
 mod numbers;
 mod scopes;
 mod sizes;
 mod types;
+mod uses;
 mod variables;
 mod words;
 

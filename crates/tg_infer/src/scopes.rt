@@ -39,7 +39,7 @@ pub struct Scope<'a> {
 impl<'a> Scope<'a> {
     // Whether the function that is being declared has this name.
     #[tactic(auto, using(crate::proofs::ScopeLaws::scopes))]
-    fn is_own(&self, x: &Name) -> bool
+    pub(crate) fn is_own(&self, x: &Name) -> bool
         ensures { result ≡ is_taken x.now (scope_of self.now).own }
     {
         match self.own {
