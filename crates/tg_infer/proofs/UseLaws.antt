@@ -1,9 +1,8 @@
 -- What words are.
-use Rattle.std.proofs.Common.{ℕ, suc, ◌≡◌, Bool, true, false, ◌&&◌, List, [], ◌∷◌, ◌++◌, length, map, Option, Some, None, refl, sym, ◌∙◌, ap, arith, if◌then◌else◌}
+use Rattle.std.proofs.Common.{ℕ, ◌≡◌, true, false, ◌&&◌, List, [], ◌∷◌, length, Option, Some, None, refl, sym, ◌∙◌, ap, arith, if◌then◌else◌}
 use Rattle.std.specs.Prelude.{option_map}
 use Rattle.std.specs.Option.{option_map_or}
 use Rattle.tg_accept.specs.Faults.{is_taken}
-use Rattle.tg_accept.specs.Meaning as meaning
 use Rattle.tg_accept.specs.Meaning.{Scope, variable_on, variable_named, word_on, word_named, word_meant, declared_on, place_of}
 use Rattle.tg_accept.specs.Raw.{Binder, name}
 use Rattle.tg_accept.specs.Resolved as model
@@ -14,7 +13,6 @@ use Rattle.tg_typing.specs.declared.resolved.Resolved.TheVariants as resolveds
 use Rattle.tg_typing.specs.View.{resolved, all_resolved, resolved-Bound, resolved-Free, resolved-Misused}
 use Rattle.tg_infer.specs.declared.words.Word.{Word}
 use Rattle.tg_infer.specs.declared.words.Words.{Words}
-use Rattle.tg_infer.specs.declared.uses.Use.{Use}
 use Rattle.tg_infer.specs.declared.uses.Use.TheVariants.{Bound, Free, Own, Declared}
 use Rattle.tg_infer.specs.Words.{AreWordsOf, word, word_in}
 use Rattle.tg_infer.specs.Uses.{use_on, IsMeaning}

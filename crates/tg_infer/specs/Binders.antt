@@ -1,5 +1,5 @@
 -- The variables that are bound where a term stands.
-use Rattle.std.specs.Prelude.{ℕ, suc, ◌≡◌, Bool, nat_eq, List, [], ◌∷◌, reverse, length, drop, Option, Some, None, option_and_then, if◌then◌else◌}
+use Rattle.std.specs.Prelude.{ℕ, suc, ◌≡◌, List, [], ◌∷◌, reverse, length, drop, Option, Some, None, option_and_then, if◌then◌else◌}
 use Rattle.std.specs.Option.{option_map_or}
 use Rattle.std.specs.Str.{bytes_eq}
 use Rattle.indexmap.specs.IndexMap.{get}

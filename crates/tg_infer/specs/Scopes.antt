@@ -1,5 +1,5 @@
 -- Where a term stands, as the definitions have it.
-use Rattle.std.specs.Prelude.{ℕ, List, [], ◌∷◌, Option, Some, None, option_map}
+use Rattle.std.specs.Prelude.{ℕ, ◌≡◌, List, option_map}
 use Rattle.tg_accept.specs.Meaning as meaning
 use Rattle.tg_infer.specs.declared.scopes.Scope.{Scope}
 use Rattle.tg_infer.specs.Words.{program_names}
@@ -12,3 +12,7 @@ scope_of s = record {
   variables = s.variables.now;
   in_certificate = s.in_certificate;
 }
+
+-- each name is the same variable in both
+pub record AreSameVariables (vs ws : List (List ℕ × ℕ)) : Type 0 where
+  pub is : (x : List ℕ) → meaning.variable_named x vs ≡ meaning.variable_named x ws

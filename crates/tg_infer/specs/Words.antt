@@ -1,5 +1,5 @@
 -- The names that are declared.
-use Rattle.std.specs.Prelude.{ℕ, ◌≡◌, List, [], ◌∷◌, ◌++◌, Option, Some, None, if◌then◌else◌}
+use Rattle.std.specs.Prelude.{◌≡◌, List, [], ◌∷◌, ◌++◌, Option, Some, None, if◌then◌else◌}
 use Rattle.std.specs.Option.{option_map_or}
 use Rattle.tg_model.specs.Accepted.{constructor_names}
 use Rattle.tg_accept.specs.Declared.{Declared}
@@ -8,6 +8,8 @@ use Rattle.tg_accept.specs.Kept.{names_of_types, name_of_program}
 use Rattle.tg_accept.specs.Raw.{Name}
 use Rattle.tg_accept.specs.Meaning as meaning
 use Rattle.tg_accept.specs.Meaning.{number_of, names_of_functions}
+use Rattle.tg_declarations.specs.declared.definitions.DataDef.{DataDef}
+use Rattle.tg_theory.specs.Taking.{constructor_names as declared_names}
 use Rattle.tg_infer.specs.declared.words.Word.{Word}
 use Rattle.tg_infer.specs.declared.words.Word.TheVariants as words
 use Rattle.tg_infer.specs.declared.words.Words.{Words}
@@ -40,3 +42,24 @@ word_in w x =
 -- the names of constructors, functions and the program are one space
 abbrev pub values_in : Words → List Name
 values_in w = w.constructors ++ (w.functions ++ program_names w.program)
+
+-- the names of a datatype and its constructors are added
+pub record HaveDatatype (old new : Words) (def : DataDef) : Type 0 where
+  pub types : new.types ≡ old.types ++ def.name ∷ []
+  pub constructors : new.constructors ≡ old.constructors ++ declared_names def.cons
+  pub functions : new.functions ≡ old.functions
+  pub program : new.program ≡ old.program
+
+-- the name of a function is added
+pub record HaveFunction (old new : Words) (x : Name) : Type 0 where
+  pub types : new.types ≡ old.types
+  pub constructors : new.constructors ≡ old.constructors
+  pub functions : new.functions ≡ old.functions ++ x ∷ []
+  pub program : new.program ≡ old.program
+
+-- the name of the program is set
+pub record HaveProgram (old new : Words) (x : Name) : Type 0 where
+  pub types : new.types ≡ old.types
+  pub constructors : new.constructors ≡ old.constructors
+  pub functions : new.functions ≡ old.functions
+  pub program : new.program ≡ Some x

@@ -1,6 +1,7 @@
 //! Variables with numbers, found by hash.
 ghost use Rattle.std.specs.Prelude.{◌≡◌, ◌++◌, ◌∷◌, [], OnOk};
 ghost use Rattle.tg_accept.specs.Meaning.{variable_named};
+ghost use Rattle.tg_infer.specs.Scopes.{AreSameVariables};
 
 use indexmap::IndexMap;
 use std::alloc::{AllocError, Global};
@@ -37,5 +38,19 @@ impl Variables {
         ensures { result ≡ variable_named x.now self.now }
     {
         self.numbers.get(x).copied()
+    }
+
+    /// Adds a variable behind the others, which isn't meant where there is one of its name.
+    #[tactic(auto, using(crate::proofs::ScopeLaws::adding))]
+    pub fn add(&mut self, x: &Name, n: u32) -> Result<(), AllocError>
+        ensures { OnOk result (AreSameVariables self.new (self.old ++ (x.now, n) ∷ [])) }
+    {
+        match self.number(x) {
+            Some(_) => Ok(()),
+            None => {
+                self.numbers.insert(x.clone()?, n)?;
+                Ok(())
+            }
+        }
     }
 }

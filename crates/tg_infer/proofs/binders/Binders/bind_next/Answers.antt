@@ -1,4 +1,4 @@
-use Rattle.std.proofs.Common.{◌≡◌, None, refl, rules}
+use Rattle.std.proofs.Common.{None, refl}
 use Rattle.tg_infer.proofs.BinderLaws.{have_bound_next}
 use Rattle.tg_infer.proofs.binders.Binders.bind_next.Goals as goal
 
