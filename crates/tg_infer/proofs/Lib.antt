@@ -6,3 +6,4 @@ pub mod WordLaws
 pub mod ScopeLaws
 pub mod UseLaws
 pub mod EnteringLaws
+pub mod KnownValues
