@@ -7,7 +7,7 @@ use Rattle.tg_grammar.specs.declared.terms.Binder.{Binder}
 use Rattle.tg_grammar.specs.declared.terms.RawTerm.{RawTerm}
 use Rattle.tg_grammar.specs.declared.terms.RawTerm.TheVariants as terms
 use Rattle.tg_grammar.specs.declared.terms.RawBranch.{RawBranch}
-use Rattle.tg_infer.specs.View.{raw_term, raw_terms, raw_branches, binder, listed, bound_in, case_of, seen, Seen, seen-RawBranch, term_laws, raw_term-Num, raw_term-Truth, raw_term-Use, raw_term-Free, raw_term-Bound, raw_term-Op, raw_term-If, raw_term-Let, raw_term-Case}
+use Rattle.tg_infer.specs.View.{raw_term, raw_terms, raw_branches, binder, listed, bound_in, case_of, seen, Seen, seen-RawBranch, raw_term-Num, raw_term-Truth, raw_term-Use, raw_term-Free, raw_term-Bound, raw_term-Op, raw_term-If, raw_term-Let, raw_term-Case}
 
 -- ---- at one level
 

@@ -17,7 +17,8 @@ use Rattle.tg_grammar.specs.declared.terms.RawTerm.{RawTerm, fold-RawTerm}
 use Rattle.tg_grammar.specs.declared.terms.RawTerm.TheFolds.{fold-roll-RawTerm, fold-RawBranch, fold-roll-RawBranch}
 use Rattle.tg_grammar.specs.declared.terms.RawTerm.TheOpen.{RawTerm-F}
 use Rattle.tg_grammar.specs.declared.terms.RawTerm.TheVariants as terms
-use Rattle.tg_grammar.specs.declared.terms.RawTerm.TheVariants.{rolls-Num, rolls-Truth, rolls-Use, rolls-Free, rolls-Bound, rolls-Op, rolls-If, rolls-Let, rolls-Case}
+use Rattle.tg_grammar.specs.declared.terms.RawTerm.TheVariants.{rolls-Num, rolls-Truth, rolls-Use, rolls-Free, rolls-Bound}
+use Rattle.tg_grammar.specs.declared.terms.RawTerm.TheVariants.{rolls-Op, rolls-If, rolls-Let, rolls-Case}
 
 -- ---- types
 
@@ -48,8 +49,6 @@ raw_type-Var x = ap raw_type (sym (rolls-Var x)) ∙ fold-roll-RawTy raw.RawType
 
 pub raw_type-Word : (x : List ℕ) (ts : List RawTy) → raw_type (types.Word x ts) ≡ raw.type_word x (raw_types ts)
 raw_type-Word x ts = ap raw_type (sym (rolls-Word x ts)) ∙ fold-roll-RawTy raw.RawType type_step _
-
-pub ruleset type_laws = (raw_type-Nat, raw_type-Bool, raw_type-Var, raw_type-Word)
 
 -- ---- binders and heads
 
@@ -143,5 +142,3 @@ raw_term-Case ts bs = ap raw_term (sym (rolls-Case ts bs)) ∙ fold-roll-RawTerm
 
 pub seen-RawBranch : (b : RawBranch) → seen b ≡ record { head = head b.con; variables = map binder b.vars; body = raw_term b.body }
 seen-RawBranch b = fold-roll-RawBranch raw.RawTerm Seen step branch_step _
-
-pub ruleset term_laws = (raw_term-Num, raw_term-Truth, raw_term-Use, raw_term-Free, raw_term-Bound, raw_term-Op, raw_term-If, raw_term-Let, raw_term-Case, seen-RawBranch)
