@@ -1,0 +1,19 @@
+//! What raw theories, types and terms mean: words are looked up, and nothing else is asked of them.
+#![tactic(auto)]
+
+mod binders;
+mod entering;
+mod numbers;
+mod scopes;
+mod sizes;
+mod types;
+mod uses;
+mod variables;
+mod words;
+
+pub use numbers::Numbers;
+pub use scopes::Scope;
+pub use sizes::is_larger;
+pub use types::{type_of_raw, types_of_raw};
+pub use variables::Variables;
+pub use words::{Word, Words};
