@@ -1,8 +1,11 @@
 -- The place of a variable, and where it is bound.
-use Rattle.std.proofs.Common.{ℕ, suc, ◌≡◌, ◌+◌, ◌-◌, ◌<◌, Bool, true, false, List, [], ◌∷◌, ◌++◌, length, reverse, Option, Some, None, refl, sym, ◌∙◌, ap, subst, arith, if◌then◌else◌}
-use Rattle.std.specs.Prelude.{option_map, drop}
+use Rattle.std.proofs.Common.{ℕ, zero, suc, ◌≡◌, ◌+◌, ◌-◌, ◌<◌, ◌≤◌, get_or, Bool, true, false, List, [], ◌∷◌, ◌++◌, length, reverse, Option, Some, None, refl, sym, ◌∙◌, ap, subst, arith, if◌then◌else◌}
+use Rattle.std.specs.Prelude.{option_map, drop, slice_get, nat_eq}
+use Rattle.std.proofs.lemmas.Bool.Decides.{eqb_tells}
+use Rattle.std.proofs.Common.{inl, inr}
 use Rattle.std.specs.Option.{option_map_or}
 use Rattle.std.specs.Str.{bytes_eq}
+use Rattle.std.proofs.lemmas.Option.{slice_get_read}
 use Rattle.std.proofs.lemmas.List.{reverse-append, length-reverse}
 use Rattle.std.proofs.lemmas.Slice.Eq.{bytes_eq-Decides}
 use Rattle.indexmap.specs.IndexMap.{get}
@@ -176,3 +179,101 @@ have_left_none old new h e none same =
     empty (b ∷ bs) n = absurd (omega (arith, n))
 
 pub ruleset leaving = (have_left, have_left_next, have_left_none)
+
+-- ---- numbers of binders
+
+other : (m n : ℕ) → ¬ (m ≡ n) → nat_eq m n ≡ false
+other m n h = elim (eqb_tells m n) [ inl p ↦ absurd (h p.1) | inr p ↦ p.0 ]
+
+equal : (n : ℕ) → nat_eq n n ≡ true
+equal n = elim (eqb_tells n n) [ inl p ↦ p.0 | inr p ↦ absurd (p.1 refl) ]
+
+-- no variable has a number as great
+beyond : (bs : List Bound) (n : ℕ) → length bs < n → place_of (level n) (seen bs) ≡ None
+beyond [] n h = refl
+beyond (b ∷ bs) n h = go b.name (other n (suc (length bs)) (λ e. omega (arith, h, e))) (beyond bs n (omega (arith, h)))
+  where
+    go : (o : Option Name) → nat_eq n (suc (length bs)) ≡ false → place_of (level n) (seen bs) ≡ None
+        → place_of (level n) (option_map_or name o (level (suc (length bs))) ∷ seen bs) ≡ None
+    go None e r = ap (λ c. if c then Some 0 else option_map suc (place_of (level n) (seen bs))) e ∙ ap (option_map suc) r
+    go (Some x) e r = ap (option_map suc) r
+
+nothing : (bs : List Bound) → place_of (level 0) (seen bs) ≡ None
+nothing [] = refl
+nothing (b ∷ bs) = go b.name (nothing bs) (other 0 (suc (length bs)) (λ e. omega (arith, e)))
+  where
+    go : (o : Option Name) → place_of (level 0) (seen bs) ≡ None → nat_eq 0 (suc (length bs)) ≡ false → place_of (level 0) (option_map_or name o (level (suc (length bs))) ∷ seen bs) ≡ None
+    go None r e = ap (λ c. if c then Some 0 else option_map suc (place_of (level 0) (seen bs))) e ∙ ap (option_map suc) r
+    go (Some x) r e = ap (option_map suc) r
+
+-- the variable at a place, if it has no name
+number_at : (bs : List Bound) (k : ℕ) (b : Bound) → slice_get bs k ≡ Some b
+    → place_of (level (length bs - k)) (seen bs) ≡ option_map_or (λ x. None) b.name (Some k)
+number_at [] k b e = cc e
+number_at (c ∷ bs) zero b e =
+    ap (λ n. place_of (level n) (seen (c ∷ bs))) (let s : suc (length bs) - 0 ≡ suc (length bs) = omega arith in s)
+    ∙ ap (λ (d : Bound). place_of (level (suc (length bs))) (option_map_or name d.name (level (suc (length bs))) ∷ seen bs)) (same_Some c b e) ∙ go b.name
+  where
+    go : (o : Option Name) → place_of (level (suc (length bs))) (option_map_or name o (level (suc (length bs))) ∷ seen bs) ≡ option_map_or (λ x. None) o (Some 0)
+    go None = ap (λ t. if t then Some 0 else option_map suc (place_of (level (suc (length bs))) (seen bs))) (equal (suc (length bs)))
+    go (Some x) = ap (option_map suc) (beyond bs (suc (length bs)) (omega arith))
+number_at (c ∷ bs) (suc k) b e =
+    ap (λ n. place_of (level n) (seen (c ∷ bs))) (let s : suc (length bs) - suc k ≡ length bs - k = omega arith in s)
+    ∙ go c.name (other (length bs - k) (suc (length bs)) (λ f. omega (arith, f)))
+    ∙ ap (option_map suc) (number_at bs k b e) ∙ up b.name
+  where
+    go : (o : Option Name) → nat_eq (length bs - k) (suc (length bs)) ≡ false
+        → place_of (level (length bs - k)) (option_map_or name o (level (suc (length bs))) ∷ seen bs) ≡ option_map suc (place_of (level (length bs - k)) (seen bs))
+    go None f = ap (λ t. if t then Some 0 else option_map suc (place_of (level (length bs - k)) (seen bs))) f
+    go (Some x) f = refl
+    up : (o : Option Name) → option_map suc (option_map_or (λ x. None) o (Some k)) ≡ option_map_or (λ x. None) o (Some (suc k))
+    up None = refl
+    up (Some x) = refl
+
+front : {A : Type 0} (zs ws : List A) (i : ℕ) (x : A) → slice_get zs i ≡ Some x → slice_get (zs ++ ws) i ≡ Some x
+front [] ws i x e = cc e
+front (z ∷ zs) ws zero x e = e
+front (z ∷ zs) ws (suc i) x e = front zs ws i x e
+
+last : {A : Type 0} (zs : List A) (y : A) → slice_get (zs ++ y ∷ []) (length zs) ≡ Some y
+last [] y = refl
+last (z ∷ zs) y = last zs y
+
+turned_at : {A : Type 0} (xs : List A) (at : ℕ) (x : A) → slice_get xs at ≡ Some x → slice_get (reverse xs) (length xs - (at + 1)) ≡ Some x
+turned_at [] at x e = cc e
+turned_at (y ∷ ys) zero x e =
+    let n : suc (length ys) - (0 + 1) ≡ length (reverse ys) = (let l = length-reverse ys in omega (arith, l)) in
+    ap (λ l. slice_get l (suc (length ys) - (0 + 1))) (reverse-append (y ∷ []) ys) ∙ ap (slice_get (reverse ys ++ y ∷ [])) n ∙ last (reverse ys) y ∙ e
+turned_at (y ∷ ys) (suc at) x e =
+    let n : suc (length ys) - (suc at + 1) ≡ length ys - (at + 1) = omega arith in
+    ap (λ l. slice_get l (suc (length ys) - (suc at + 1))) (reverse-append (y ∷ []) ys) ∙ ap (slice_get (reverse ys ++ y ∷ [])) n
+    ∙ front (reverse ys) (y ∷ []) (length ys - (at + 1)) x (turned_at ys at x e)
+
+read : {A : Type 0} (xs : List A) (i : ℕ) (x : A) → i < length xs → x ≡ get_or xs i x → slice_get xs i ≡ Some x
+read xs i x h e = slice_get_read xs _ _ x refl h e
+
+number_of_item : (b : Binders) (n : ℕ) (x : Bound) → 0 < n → n ≤ length b.bound.items → x ≡ get_or b.bound.items (n - 1) x
+    → place_of (level n) (binders b) ≡ option_map_or (λ y. None) x.name (Some (length b.bound.items - n))
+number_of_item b n x low high e =
+    let is : slice_get b.bound.items (n - 1) ≡ Some x = read b.bound.items (n - 1) x (omega (arith, low, high)) e in
+    let m : length b.bound.items - ((n - 1) + 1) ≡ length b.bound.items - n = omega (arith, low) in
+    let t : slice_get (reverse b.bound.items) (length b.bound.items - n) ≡ Some x =
+    subst (λ k. slice_get (reverse b.bound.items) k ≡ Some x) m (turned_at b.bound.items (n - 1) x is) in
+    let l : length (reverse b.bound.items) - (length b.bound.items - n) ≡ n = (let r = length-reverse b.bound.items in omega (arith, r, low, high)) in
+    ap (λ k. place_of (level k) (binders b)) (sym l) ∙ number_at (reverse b.bound.items) (length b.bound.items - n) x t
+
+pub numbered_place : (b : Binders) (n : ℕ) (x : Bound) → 0 < n → n ≤ length b.bound.items → x ≡ get_or b.bound.items (n - 1) x → x.name ≡ None
+    → Some (length b.bound.items - n) ≡ place_of (level n) (binders b)
+numbered_place b n x low high e none = sym (number_of_item b n x low high e ∙ ap (λ o. option_map_or (λ y. None) o (Some (length b.bound.items - n))) none)
+
+pub named_has_none : (b : Binders) (n : ℕ) (x : Bound) (y : Name) → 0 < n → n ≤ length b.bound.items → x ≡ get_or b.bound.items (n - 1) x → x.name ≡ Some y
+    → None ≡ place_of (level n) (binders b)
+named_has_none b n x y low high e named = sym (number_of_item b n x low high e ∙ ap (λ o. option_map_or (λ y. None) o (Some (length b.bound.items - n))) named)
+
+pub no_number : (b : Binders) (n : ℕ) → n ≡ 0 → None ≡ place_of (level n) (binders b)
+no_number b n e = sym (ap (λ m. place_of (level m) (binders b)) e ∙ nothing (reverse b.bound.items))
+
+pub number_past : (b : Binders) (n : ℕ) → length b.bound.items < n → None ≡ place_of (level n) (binders b)
+number_past b n h = sym (beyond (reverse b.bound.items) n (let r = length-reverse b.bound.items in omega (arith, r, h)))
+
+pub ruleset numbered = (numbered_place, named_has_none, no_number, number_past)

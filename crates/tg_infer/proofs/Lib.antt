@@ -3,6 +3,15 @@ pub mod NumberLaws
 pub mod TypeLaws
 pub mod BinderLaws
 pub mod WordLaws
+pub mod ResolvingLaws
+pub mod SameVariables
+pub mod ParamLaws
+pub mod EachLaws
+pub mod PatternLaws
+pub mod LeftLaws
+pub mod EquationLaws
+pub mod SignatureLaws
+pub mod MadeLaws
 pub mod ScopeLaws
 pub mod UseLaws
 pub mod EnteringLaws

@@ -4,3 +4,7 @@ pub mod Words
 pub mod Scopes
 pub mod Uses
 pub mod Entering
+pub mod Finding
+pub mod Params
+pub mod Signatures
+pub mod Made

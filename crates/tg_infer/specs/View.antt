@@ -12,6 +12,12 @@ use Rattle.tg_grammar.specs.declared.terms.Binder.{Binder}
 use Rattle.tg_grammar.specs.declared.terms.Binder.TheVariants as binders
 use Rattle.tg_grammar.specs.declared.terms.RawCon.{RawCon}
 use Rattle.tg_grammar.specs.declared.terms.RawCon.TheVariants as cons
+use Rattle.tg_grammar.specs.declared.declarations.RawPat.{RawPat}
+use Rattle.tg_grammar.specs.declared.declarations.RawPat.TheVariants as patterns
+use Rattle.tg_grammar.specs.declared.declarations.RawEq.{RawEq}
+use Rattle.tg_grammar.specs.declared.declarations.RawConDef.{RawConDef}
+use Rattle.tg_grammar.specs.declared.declarations.RawDecl.{RawDecl}
+use Rattle.tg_grammar.specs.declared.declarations.RawDecl.TheVariants as declarations
 use Rattle.tg_grammar.specs.declared.terms.RawBranch.{RawBranch, RawBranch-F}
 use Rattle.tg_grammar.specs.declared.terms.RawTerm.{RawTerm, fold-RawTerm}
 use Rattle.tg_grammar.specs.declared.terms.RawTerm.TheFolds.{fold-roll-RawTerm, fold-RawBranch, fold-roll-RawBranch}
@@ -142,3 +148,23 @@ raw_term-Case ts bs = ap raw_term (sym (rolls-Case ts bs)) ∙ fold-roll-RawTerm
 
 pub seen-RawBranch : (b : RawBranch) → seen b ≡ record { head = head b.con; variables = map binder b.vars; body = raw_term b.body }
 seen-RawBranch b = fold-roll-RawBranch raw.RawTerm Seen step branch_step _
+
+-- ---- declarations
+
+abbrev pub raw_pattern : RawPat → raw.RawPattern
+raw_pattern (patterns.Word x) = raw.bare x
+raw_pattern patterns.Zero = raw.zero_pattern
+raw_pattern (patterns.Con c xs) = raw.bracketed (head c) xs
+
+abbrev pub raw_equation : RawEq → raw.RawEquation
+raw_equation e = record { head = e.head; patterns = map raw_pattern e.pats; body = raw_term e.body }
+
+abbrev pub raw_constructor : RawConDef → raw.RawConstructor
+raw_constructor c = record { name = c.name; arguments = map raw_type c.args }
+
+abbrev pub raw_declaration : RawDecl → raw.RawDeclaration
+raw_declaration (declarations.Datatype x params cs) = raw.datatype x params (map raw_constructor cs)
+raw_declaration (declarations.Primrec x ts es) = raw.primrec x (map raw_type ts) (map raw_equation es)
+raw_declaration (declarations.Definition x ts es) = raw.definition x (map raw_type ts) (map raw_equation es)
+raw_declaration (declarations.Program x ts) = raw.program x (map raw_type ts)
+raw_declaration (declarations.Spec xs body) = raw.specification xs (raw_term body)

@@ -57,6 +57,22 @@ impl Binders {
         }
     }
 
+    /// How many variables are bound inside of the one of this number, counted from the outside, from 1. A
+    /// variable with a name has no number.
+    #[tactic(auto, using(crate::proofs::BinderLaws::numbered))]
+    pub(crate) fn place_of_number(&self, n: u64) -> Option<usize>
+        ensures { result ≡ place_of (level n) (binders self.now) }
+    {
+        if n == 0 || n > self.bound.len() as u64 {
+            return None;
+        }
+        let n = n as usize;
+        match &self.bound[n - 1].name {
+            Some(_) => None,
+            None => Some(self.bound.len() - n),
+        }
+    }
+
     // Where the innermost variable of a name is bound, counted from the outside, from 0.
     #[tactic(auto, using(crate::proofs::BinderLaws::levels))]
     fn level(&self, x: &Name) -> Option<usize>

@@ -3,8 +3,15 @@
 
 mod binders;
 mod entering;
+mod equations;
+mod lefts;
+mod made;
 mod numbers;
+mod params;
+mod patterns;
+mod resolving;
 mod scopes;
+mod signatures;
 mod sizes;
 mod types;
 mod uses;
@@ -14,6 +21,6 @@ mod words;
 pub use numbers::Numbers;
 pub use scopes::Scope;
 pub use sizes::is_larger;
-pub use types::{type_of_raw, types_of_raw};
+
 pub use variables::Variables;
 pub use words::{Word, Words};

@@ -1,7 +1,7 @@
 //! Where a term stands.
 ghost use Rattle.std.specs.Prelude.{◌≡◌, option_map};
 ghost use Rattle.tg_accept.specs.Faults.{is_taken};
-ghost use Rattle.tg_accept.specs.Meaning.{may_bind, head_meant};
+ghost use Rattle.tg_accept.specs.Meaning.{may_bind, head_meant, taken_names};
 ghost use Rattle.tg_infer.specs.Binders.{binders};
 ghost use Rattle.tg_infer.specs.Scopes.{scope_of};
 ghost use Rattle.tg_infer.specs.View.{binder, head};
@@ -48,6 +48,15 @@ impl<'a> Scope<'a> {
         }
     }
 
+    /// Whether no variable may have this name.
+    #[tactic(auto, using(crate::proofs::ScopeLaws::scopes))]
+    pub(crate) fn is_taken(&self, x: &Name) -> bool
+        requires { AreWordsOf self.now.words.now self.now.declared.now }
+        ensures { result ≡ is_taken x.now (taken_names (scope_of self.now)) }
+    {
+        self.words.is_value(x) || self.is_own(x)
+    }
+
     /// Whether a variable may be bound by this binder, inside of the others.
     #[tactic(auto, using(crate::proofs::ScopeLaws::scopes))]
     pub(crate) fn may_bind(&self, outer: &Binders, x: &Binder) -> bool
@@ -56,7 +65,7 @@ impl<'a> Scope<'a> {
     {
         match x {
             Binder::Named(x) => {
-                !self.in_certificate && !(self.words.is_value(x) || self.is_own(x))
+                !self.in_certificate && !self.is_taken(x)
             }
             Binder::Level(n) => self.in_certificate && *n == outer.len() as u64 + 1,
         }

@@ -5,6 +5,7 @@ ghost use Rattle.tg_infer.specs.View.{raw_type, raw_types};
 ghost use Rattle.tg_types.specs.Types.{ty, types};
 
 use crate::numbers::Numbers;
+use crate::params::Params;
 use sqlite_items::Items;
 use std::alloc::{AllocError, Global};
 use tg_grammar::RawTy;
@@ -14,9 +15,9 @@ use tg_types::Ty;
 /// datatypes of theirs; `None` where one has no number.
 #[cycle(types)]
 #[tactic(auto, using(crate::proofs::TypeLaws::meaning))]
-pub fn type_of_raw(
+pub(crate) fn type_of_raw(
     alloc: Global,
-    params: &Numbers,
+    params: &Params,
     names: &Numbers,
     t: &RawTy,
 ) -> Result<Option<Ty>, AllocError>
@@ -44,9 +45,9 @@ pub fn type_of_raw(
 /// The types that raw types mean, if each means one.
 #[cycle(types)]
 #[tactic(auto, using(crate::proofs::TypeLaws::meaning))]
-pub fn types_of_raw(
+pub(crate) fn types_of_raw(
     alloc: Global,
-    params: &Numbers,
+    params: &Params,
     names: &Numbers,
     ts: &[RawTy],
 ) -> Result<Option<Items<Ty>>, AllocError>

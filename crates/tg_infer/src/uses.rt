@@ -92,7 +92,7 @@ fn free_on(n: u32, us: Items<Resolved>) -> Resolved
     ensures { resolved result ≡ variable_on (free n) (all_resolved us) }
 {
     if us.len() == 0 {
-        Resolved::Free(n)
+        Resolved::Free(u64::from(n))
     } else {
         Resolved::Misused(us)
     }

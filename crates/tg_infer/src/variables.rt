@@ -1,5 +1,5 @@
 //! Variables with numbers, found by hash.
-ghost use Rattle.std.specs.Prelude.{◌≡◌, ◌++◌, ◌∷◌, [], OnOk};
+ghost use Rattle.std.specs.Prelude.{◌≡◌, ◌∷◌, [], OnOk};
 ghost use Rattle.tg_accept.specs.Meaning.{variable_named};
 ghost use Rattle.tg_infer.specs.Scopes.{AreSameVariables};
 
@@ -40,17 +40,12 @@ impl Variables {
         self.numbers.get(x).copied()
     }
 
-    /// Adds a variable behind the others, which isn't meant where there is one of its name.
+    /// Adds a variable in front of the others. It hides one of its name.
     #[tactic(auto, using(crate::proofs::ScopeLaws::adding))]
     pub fn add(&mut self, x: &Name, n: u32) -> Result<(), AllocError>
-        ensures { OnOk result (AreSameVariables self.new (self.old ++ (x.now, n) ∷ [])) }
+        ensures { OnOk result (AreSameVariables self.new ((x.now, n) ∷ self.old)) }
     {
-        match self.number(x) {
-            Some(_) => Ok(()),
-            None => {
-                self.numbers.insert(x.clone()?, n)?;
-                Ok(())
-            }
-        }
+        self.numbers.insert(x.clone()?, n)?;
+        Ok(())
     }
 }

@@ -7,6 +7,7 @@ ghost use Rattle.tg_accept.specs.Meant.{IsDatatypeMeant, IsFunctionMeant, IsProg
 ghost use Rattle.tg_declarations.specs.View.{datatype, function, program};
 ghost use Rattle.tg_theory.specs.Causes.{IsCause, missing_fault};
 ghost use Rattle.tg_theory.specs.Names.{IsName, AreNames, HaveSameNames};
+ghost use Rattle.tg_theory.specs.Right.{IsRight};
 ghost use Rattle.tg_theory.specs.Taking.{constructor_names, BeginsWith};
 
 use crate::adding::{body_calls_program, take_constructors};
@@ -55,6 +56,14 @@ impl Builder {
             types: Names::new(alloc),
             values: Names::new(alloc),
         }
+    }
+
+    /// What is declared.
+    pub fn declarations(&self) -> &Declarations
+        ensures declared { result.now ≡ self.now }
+        ensures right { IsRight self.now }
+    {
+        &self.declared
     }
 
     /// Adds a datatype, and answers its number. Its constructors' arguments name it by this number.

@@ -28,7 +28,7 @@ pub(crate) fn embed(
 {
     match t.node() {
         Node::Bound(k) => Ok(Resolved::Bound(*k)),
-        Node::Free(n) => Ok(Resolved::Free(*n)),
+        Node::Free(n) => Ok(Resolved::Free(u64::from(*n))),
         Node::Lit(n) => Ok(Resolved::Lit(*n)),
         Node::Truth(b) => Ok(Resolved::Truth(*b)),
         Node::Con(c, ts) => Ok(Resolved::Con(*c, embed_all(alloc, declared, ts.as_slice())?)),

@@ -10,7 +10,7 @@ pub enum Resolved {
     /// The variable of the binder that is this number of binders further out, from 0.
     Bound(u32),
     /// The free variable of this number, from 1.
-    Free(u32),
+    Free(u64),
     /// A natural.
     Lit(u64),
     /// A truth value.

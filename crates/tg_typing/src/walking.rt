@@ -184,7 +184,7 @@ fn bound(locs: &[usize], k: u32) -> Option<usize>
 }
 
 // The node of a free variable, numbered from 1.
-fn free(vars: &[usize], n: u32) -> Option<usize>
+fn free(vars: &[usize], n: u64) -> Option<usize>
     ensures { result ≡ numbered vars.now n }
 {
     vars.get((n as usize).checked_sub(1)?).copied()
