@@ -1,0 +1,8 @@
+pub mod PlaceLaws
+pub mod HeadLaws
+pub mod CoreLaws
+pub mod DifferentLaws
+pub mod CheckedLaws
+pub mod InstanceLaws
+pub mod LeftLaws
+pub mod TypingLaws
