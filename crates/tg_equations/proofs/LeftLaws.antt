@@ -22,10 +22,10 @@ use Rattle.tg_equations.specs.LeftSides.{together, of_variables, as_many, of_con
 abbrev pub pair : {A B : Type 0} → A → B → A × B
 pair x y = (x, y)
 
-equal_yes : (m n : ℕ) → m ≡ n → nat_eq m n ≡ true
+pub equal_yes : (m n : ℕ) → m ≡ n → nat_eq m n ≡ true
 equal_yes m n e = elim (eqb_tells m n) [ inl p ↦ p.0 | inr p ↦ absurd (p.1 e) ]
 
-equal_no : (m n : ℕ) → ¬ (m ≡ n) → nat_eq m n ≡ false
+pub equal_no : (m n : ℕ) → ¬ (m ≡ n) → nat_eq m n ≡ false
 equal_no m n e = elim (eqb_tells m n) [ inl p ↦ absurd (e p.1) | inr p ↦ p.0 ]
 
 -- ---- both kinds

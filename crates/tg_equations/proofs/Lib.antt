@@ -6,3 +6,7 @@ pub mod CheckedLaws
 pub mod InstanceLaws
 pub mod LeftLaws
 pub mod TypingLaws
+pub mod MatchedLaws
+pub mod EachLaws
+pub mod BodyLaws
+pub mod ShapeLaws

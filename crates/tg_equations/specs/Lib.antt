@@ -5,3 +5,5 @@ pub mod Placed
 pub mod View
 pub mod LeftSides
 pub mod Told
+pub mod Matched
+pub mod Shaped
