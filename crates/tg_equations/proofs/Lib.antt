@@ -10,3 +10,5 @@ pub mod MatchedLaws
 pub mod EachLaws
 pub mod BodyLaws
 pub mod ShapeLaws
+pub mod NamedLaws
+mod KnownValues
