@@ -1,5 +1,5 @@
 -- The cases of a function, one after another.
-use Rattle.std.proofs.Common.{ℕ, ◌≡◌, List, [], ◌∷◌, map, Option, refl, ◌∙◌, ap}
+use Rattle.std.proofs.Common.{ℕ, ◌≡◌, List, Option, ◌∙◌, ap}
 use Rattle.tg_model.specs.Tree.{Tree}
 use Rattle.tg_model.specs.Theory.{Theory}
 use Rattle.tg_accept.specs.Core.{core}

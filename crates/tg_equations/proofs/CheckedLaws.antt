@@ -1,10 +1,9 @@
 -- Walks over the `case`s of a term.
-use Rattle.std.proofs.Common.{ℕ, zero, suc, ◌≡◌, ◌+◌, ◌↔◌, Bool, true, false, not, ◌&&◌, ◌||◌, List, [], ◌∷◌, ◌++◌, map, take, drop, length, Option, Some, None, refl, sym, ◌∙◌, ap, subst, if◌then◌else◌, arith}
+use Rattle.std.proofs.Common.{ℕ, suc, ◌≡◌, ◌+◌, ◌↔◌, Bool, true, false, not, ◌&&◌, ◌||◌, List, [], ◌∷◌, map, take, drop, Option, Some, refl, sym, ◌∙◌, ap, subst, if◌then◌else◌, arith}
 use Rattle.std.specs.Prelude.{slice_get, is_some}
 use Rattle.std.specs.List.{list_all, list_any}
 use Rattle.std.specs.Str.{bytes_eq}
 use Rattle.tg_model.specs.Theory.{Theory}
-use Rattle.tg_model.specs.Accepted.{AreDistinct}
 use Rattle.tg_model.proofs.Booleans.{and_left, and_right}
 use Rattle.tg_accept.specs.Cases.{heads_in, EachCaseIn, EachCasesIn, EachBranchIn, AreOnce, HaveDistinctVariables, AreCasesShaped}
 use Rattle.tg_accept.specs.Core.{same_head, heads_of, has_branch, HasBranches, EachCaseWhole, EachCasesWhole, EachBranchWhole}
@@ -15,7 +14,7 @@ use Rattle.tg_accept.proofs.KeepDatatypes.{number_itself}
 use Rattle.tg_typing.specs.declared.resolved.Resolved.{Resolved}
 use Rattle.tg_typing.specs.declared.resolved.Resolved.TheVariants as made
 use Rattle.tg_typing.specs.declared.resolved.Branch.{Branch}
-use Rattle.tg_typing.specs.View.{head, seen, resolved, all_resolved, branches, seen-Branch, Seen}
+use Rattle.tg_typing.specs.View.{head, resolved, all_resolved, branches, seen-Branch, Seen}
 use Rattle.tg_typing.specs.View.{resolved-Bound, resolved-Free, resolved-Lit, resolved-Truth, resolved-Con, resolved-Call, resolved-Own, resolved-Misused, resolved-Put, resolved-If, resolved-Case, resolved-Let, resolved-Op}
 use Rattle.tg_equations.specs.Checked.{are_different, are_once, have_different_variables, are_branches, each_case, each_cases, each_branch}
 use Rattle.tg_equations.proofs.DifferentLaws.{Decides, distinct_from, different_from, names_decided, different_next, different_not}

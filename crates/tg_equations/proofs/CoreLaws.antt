@@ -1,6 +1,6 @@
 -- What a core term is made of.
-use Rattle.std.proofs.Common.{ℕ, zero, suc, ◌≡◌, ◌+◌, Bool, true, false, nat_eq, List, [], ◌∷◌, ◌++◌, map, take, length, Option, Some, None, refl, sym, ◌∙◌, ap, subst, if◌then◌else◌, arith}
-use Rattle.std.specs.Prelude.{slice_get, option_map, option_and_then, unwrap_or}
+use Rattle.std.proofs.Common.{ℕ, suc, ◌≡◌, ◌+◌, Bool, true, false, List, [], ◌∷◌, ◌++◌, map, take, length, Option, Some, refl, sym, ◌∙◌, ap, if◌then◌else◌, arith}
+use Rattle.std.specs.Prelude.{slice_get, option_map, unwrap_or}
 use Rattle.std.specs.List.{list_any}
 use Rattle.std.specs.Prelude.{not}
 use Rattle.std.proofs.lemmas.List.{map-append}
@@ -10,7 +10,6 @@ use Rattle.tg_model.specs.Tree.{Tree, trees}
 use Rattle.tg_model.specs.Theory.{Theory}
 use Rattle.tg_accept.specs.Core as model
 use Rattle.tg_accept.specs.Core.{core, cores, written, arranged, branch_of, same_head, heads_of}
-use Rattle.tg_accept.specs.Resolved as resolveds
 use Rattle.tg_accept.specs.Resolved.{Head}
 use Rattle.tg_term.specs.declared.terms.Branch.{Branch}
 use Rattle.tg_term.specs.View.{arms}
@@ -18,7 +17,7 @@ use Rattle.tg_term.specs.Operators.{operator}
 use Rattle.tg_typing.specs.declared.resolved.Resolved.{Resolved}
 use Rattle.tg_typing.specs.declared.resolved.Resolved.TheVariants as made
 use Rattle.tg_typing.specs.declared.resolved.Branch as resolved_branch
-use Rattle.tg_typing.specs.View.{Seen, head, seen, listed, branched, resolved, all_resolved, branches, seen-Branch}
+use Rattle.tg_typing.specs.View.{Seen, head, seen, branched, resolved, all_resolved, branches, seen-Branch}
 use Rattle.tg_typing.specs.View.{resolved-Bound, resolved-Free, resolved-Lit, resolved-Truth, resolved-Con, resolved-Call, resolved-Own, resolved-Misused, resolved-Put, resolved-If, resolved-Case, resolved-Let, resolved-Op}
 use Rattle.tg_equations.specs.declared.core_terms.Written.{Written}
 use Rattle.tg_equations.specs.declared.places.Place.{Place}

@@ -1,5 +1,5 @@
 -- Items that differ, and how that is decided.
-use Rattle.std.proofs.Common.{ℕ, suc, ◌≡◌, ◌+◌, ◌↔◌, ◌⊎◌, Bool, true, false, not, ◌&&◌, ◌||◌, List, [], ◌∷◌, ◌++◌, take, drop, Option, Some, refl, sym, ◌∙◌, ap, subst, inl, inr, arith}
+use Rattle.std.proofs.Common.{ℕ, suc, ◌≡◌, ◌+◌, ◌↔◌, ◌⊎◌, Bool, true, false, not, ◌&&◌, ◌||◌, List, [], ◌∷◌, ◌++◌, take, drop, Some, refl, sym, ◌∙◌, ap, subst, inl, inr, arith}
 use Rattle.std.specs.Prelude.{slice_get}
 use Rattle.std.specs.List.{list_any}
 use Rattle.std.specs.Str.{bytes_eq}
@@ -9,7 +9,7 @@ use Rattle.std.proofs.lemmas.Slice.Eq.{bytes_eq-Decides}
 use Rattle.tg_model.specs.Accepted.{IsAmong, AreDistinct}
 use Rattle.tg_model.proofs.Booleans.{or_left, or_right, and_left, and_right}
 use Rattle.tg_accept.specs.Faults.{is_taken}
-use Rattle.tg_term.proofs.PartLaws.{drop_at, take_at}
+use Rattle.tg_term.proofs.PartLaws.{take_at}
 use Rattle.tg_accept.specs.Equations.{Pattern, variable, matched, left_names}
 use Rattle.tg_equations.specs.Checked.{are_different, names_in, Takes}
 

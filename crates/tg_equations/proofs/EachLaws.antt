@@ -1,5 +1,5 @@
 -- What holds of each item, one after another.
-use Rattle.std.proofs.Common.{◌≡◌, ◌↔◌, Bool, true, false, List, [], ◌∷◌, refl, sym, subst}
+use Rattle.std.proofs.Common.{◌≡◌, ◌↔◌, true, false, List, [], ◌∷◌, refl, sym, subst}
 use Rattle.tg_accept.specs.Checks.{Each}
 
 module _ {A : Type 0} (P : A → Type 0) (xs : List A) where

@@ -1,11 +1,11 @@
 -- The constructors of a datatype, by their numbers.
-use Rattle.std.proofs.Common.{ℕ, zero, suc, ◌≡◌, List, [], ◌∷◌, map, length, Option, Some, None, refl, ap}
+use Rattle.std.proofs.Common.{ℕ, zero, suc, ◌≡◌, [], ◌∷◌, map, length, Option, Some, None, refl, ap}
 use Rattle.std.specs.Prelude.{slice_get}
 use Rattle.std.specs.Option.{option_map_or}
 use Rattle.tg_model.specs.Theory.{Datatype, first_constructor}
 use Rattle.tg_accept.specs.Core.{heads_of, heads_from}
 use Rattle.tg_accept.specs.Declared.{Declared, theory}
-use Rattle.tg_accept.specs.Resolved.{Head, of}
+use Rattle.tg_accept.specs.Resolved.{of}
 use Rattle.tg_declarations.specs.Owners.{numbers_from}
 use Rattle.tg_declarations.specs.View.{constructor_numbers}
 

@@ -1,12 +1,12 @@
 -- Instances of declared types, one level at a time.
-use Rattle.std.proofs.Common.{ℕ, zero, suc, ◌≡◌, List, [], ◌∷◌, map, Option, Some, None, refl, sym, ◌∙◌, ap}
-use Rattle.std.specs.Prelude.{slice_get, option_map, unwrap_or}
+use Rattle.std.proofs.Common.{ℕ, zero, suc, ◌≡◌, List, [], ◌∷◌, map, Some, None, refl, sym, ◌∙◌, ap}
+use Rattle.std.specs.Prelude.{option_map, unwrap_or}
 use Rattle.std.proofs.lemmas.Option.{slice_get-map}
 use Rattle.tg_model.specs.Types as model
 use Rattle.tg_model.specs.Theory.{instance, instances, numbered}
 use Rattle.tg_types.specs.declared.types.Ty.{Ty}
 use Rattle.tg_types.specs.declared.types.Ty.TheVariants.{Nat, Bool, Param, Meta, App}
-use Rattle.tg_types.specs.Types.{ty, types, ty-Nat, ty-Bool, ty-Param, ty-Meta, ty-App}
+use Rattle.tg_types.specs.Types.{ty, ty-Nat, ty-Bool, ty-Param, ty-Meta, ty-App}
 
 instances_of : (us ts : List model.Ty) → model.tys (map (instance us) ts) ≡ instances us (model.tys ts)
 instances_of us [] = refl

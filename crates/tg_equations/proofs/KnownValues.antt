@@ -1,13 +1,11 @@
 -- Known values of the definitions of this crate.
 use Rattle.std.specs.Prelude.{◌≡◌, true, false, [], ◌∷◌, Some, None, nat_eq, refl}
-use Rattle.std.specs.Str.{bytes_eq}
 use Rattle.tg_model.specs.Types.{nat, bool}
 use Rattle.tg_model.specs.TermTyping.{Typing, leaf}
 use Rattle.tg_accept.specs.Equations as model
 use Rattle.tg_accept.specs.Equations.{variable, matched}
 use Rattle.tg_accept.specs.Declared.{nothing, theory}
 use Rattle.tg_accept.specs.Resolved.{zero_head, successor_head, of, truth, end, branch}
-use Rattle.tg_accept.specs.Typings.{HasTyping}
 use Rattle.tg_typing.specs.declared.typings.Typings.TheVariants as typings
 use Rattle.tg_equations.specs.Checked.{are_different, names_in, are_once, have_different_variables, are_branches}
 use Rattle.tg_equations.specs.LeftSides.{together, of_variables, of_constructors, as_many}

@@ -1,23 +1,23 @@
 -- The types of a left side, one pattern at a time.
-use Rattle.std.proofs.Common.{ℕ, zero, suc, ◌≡◌, ◌+◌, Bool, true, false, ◌&&◌, nat_eq, List, [], ◌∷◌, ◌++◌, map, length, drop, Option, Some, None, refl, sym, ◌∙◌, ap, subst, inl, inr, if◌then◌else◌, arith}
+use Rattle.std.proofs.Common.{ℕ, zero, suc, ◌≡◌, ◌+◌, Bool, true, false, nat_eq, List, [], ◌∷◌, ◌++◌, map, length, drop, Option, Some, None, refl, sym, ◌∙◌, ap, inl, inr, if◌then◌else◌, arith}
 use Rattle.std.specs.Prelude.{slice_get, option_map, option_and_then}
 use Rattle.std.proofs.lemmas.Bool.Decides.{eqb_tells}
-use Rattle.std.proofs.lemmas.List.{append-nil, append_assoc, map-append, length-map}
+use Rattle.std.proofs.lemmas.List.{append-nil, append_assoc}
 use Rattle.tg_model.specs.Types as types
 use Rattle.tg_model.specs.Types.{Ty, tys, elements}
-use Rattle.tg_model.specs.Theory.{Theory, Owned, constructor_at, instance}
+use Rattle.tg_model.specs.Theory.{Theory}
 use Rattle.tg_accept.specs.Equations.{Pattern, variable, matched, left_types, opened, parts}
-use Rattle.tg_accept.specs.Resolved.{zero_head, successor_head, of}
+use Rattle.tg_accept.specs.Resolved.{successor_head}
 use Rattle.tg_accept.specs.ResolvedTyping.{head_at}
 use Rattle.tg_types.specs.declared.types.Ty as declared
 use Rattle.tg_types.specs.declared.types.Ty.TheVariants.{Nat, Bool as Boolean, Param, Meta, App}
-use Rattle.tg_types.specs.Types.{ty, types as types_of, ty-Nat, ty-Bool, ty-Param, ty-Meta, ty-App}
+use Rattle.tg_types.specs.Types.{ty, ty-Nat, ty-Bool, ty-Param, ty-Meta, ty-App}
 use Rattle.tg_typing.specs.View.{head}
 use Rattle.tg_equations.specs.View.{pattern, patterns}
 use Rattle.tg_equations.specs.declared.equations.Pattern.{Pattern as Written}
 use Rattle.tg_equations.specs.declared.equations.Pattern.TheVariants.{Variable, Matched}
 use Rattle.tg_term.proofs.PartLaws.{drop_at}
-use Rattle.tg_equations.specs.LeftSides.{together, of_variables, as_many, of_constructors, AddsAll, Adds, seen_parts}
+use Rattle.tg_equations.specs.LeftSides.{together, of_variables, as_many, of_constructors, AddsAll, Adds}
 
 abbrev pub pair : {A B : Type 0} → A → B → A × B
 pair x y = (x, y)

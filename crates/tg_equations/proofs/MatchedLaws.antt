@@ -1,13 +1,12 @@
 -- Which equation is for a constructor, and how many are.
-use Rattle.std.proofs.Common.{ℕ, zero, suc, ◌≡◌, ◌+◌, ◌↔◌, Bool, true, false, not, ◌&&◌, ◌||◌, nat_eq, List, [], ◌∷◌, ◌++◌, map, take, drop, length, Option, Some, None, refl, sym, ◌∙◌, ap, subst, inl, inr, if◌then◌else◌, arith}
-use Rattle.std.specs.Prelude.{slice_get, option_map, option_and_then}
+use Rattle.std.proofs.Common.{ℕ, zero, suc, ◌≡◌, ◌+◌, ◌↔◌, Bool, true, false, not, ◌&&◌, ◌||◌, nat_eq, List, [], ◌∷◌, map, Some, None, refl, sym, ◌∙◌, ap, subst, inl, inr, if◌then◌else◌, arith}
+use Rattle.std.specs.Prelude.{slice_get, option_map}
 use Rattle.std.specs.List.{list_all, list_any}
 use Rattle.std.specs.Option.{option_map_or}
 use Rattle.std.proofs.lemmas.Bool.{eqb-true}
 use Rattle.std.proofs.lemmas.Bool.Decides.{eqb_tells}
 use Rattle.tg_equations.proofs.LeftLaws.{equal_yes, equal_no}
 use Rattle.std.proofs.lemmas.Option.{slice_get-map}
-use Rattle.tg_model.specs.Types as types
 use Rattle.tg_model.specs.Theory.{datatype_of, numbered}
 use Rattle.tg_model.proofs.Booleans.{and_left, and_right}
 use Rattle.tg_accept.specs.Checks.{Each}
@@ -18,11 +17,9 @@ use Rattle.tg_accept.specs.Core.{heads_of}
 use Rattle.tg_accept.specs.Declared.{Declared, theory}
 use Rattle.tg_model.specs.Theory.{Function}
 use Rattle.tg_equations.specs.Shaped.{Covers}
-use Rattle.tg_accept.specs.Resolved.{Head, Resolved}
-use Rattle.tg_accept.proofs.KeepDatatypes.{number_itself}
+use Rattle.tg_accept.specs.Resolved.{Head}
 use Rattle.tg_types.specs.declared.types.Ty.{Ty}
-use Rattle.tg_types.specs.declared.types.Ty.TheVariants as made
-use Rattle.tg_types.specs.Types.{ty, types as types_of, ty-Nat, ty-Bool, ty-Param, ty-Meta, ty-App}
+use Rattle.tg_types.specs.Types.{ty}
 use Rattle.tg_equations.specs.declared.places.Place.{Place}
 use Rattle.tg_equations.specs.declared.places.Places.{Places}
 use Rattle.tg_equations.specs.Places.{placed_from, held, holds_one}
@@ -37,7 +34,7 @@ for_first h (matched k xs ∷ ps) = refl
 
 nat_step : (m n : ℕ) → nat_eq m n ≡ nat_eq (suc m) (suc n)
 nat_step m n = elim (eqb_tells m n) [
-  inl p ↦ p.0 ∙ sym (equal_yes (suc m) (suc n) (ap suc p.1))
+  | inl p ↦ p.0 ∙ sym (equal_yes (suc m) (suc n) (ap suc p.1))
   | inr p ↦ p.0 ∙ sym (equal_no (suc m) (suc n) (λ q. p.1 (let r : m ≡ n = omega (arith, q) in r)))
 ]
 

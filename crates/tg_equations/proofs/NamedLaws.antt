@@ -1,5 +1,5 @@
 -- The theory's name doesn't matter to core terms, nor to the branches of a `case`.
-use Rattle.std.proofs.Common.{ℕ, zero, suc, ◌≡◌, List, [], ◌∷◌, length, refl, ap, subst}
+use Rattle.std.proofs.Common.{ℕ, zero, suc, ◌≡◌, List, ◌∷◌, length, refl, ap, subst}
 use Rattle.tg_model.specs.Tree as tree
 use Rattle.tg_accept.specs.Core.{Written, heads_of, core, cores, written, arranged, HasBranches, EachCaseWhole, EachCasesWhole, EachBranchWhole}
 use Rattle.tg_accept.specs.Declared.{Declared, theory}

@@ -1,15 +1,13 @@
 -- Places in a list, one item after another.
-use Rattle.std.proofs.Common.{ℕ, zero, suc, ◌≡◌, ◌+◌, Bool, true, false, not, ◌||◌, nat_eq, List, [], ◌∷◌, ◌++◌, length, Option, Some, None, refl, sym, ◌∙◌, ap, subst, if◌then◌else◌, arith}
+use Rattle.std.proofs.Common.{ℕ, suc, ◌≡◌, ◌+◌, Bool, true, false, not, ◌||◌, List, [], ◌∷◌, ◌++◌, length, Some, None, refl, sym, ◌∙◌, ap, if◌then◌else◌, arith}
 use Rattle.std.specs.List.{list_any}
-use Rattle.std.specs.Prelude.{slice_get, take, is_some}
+use Rattle.std.specs.Prelude.{slice_get, take}
 use Rattle.std.proofs.lemmas.List.{length-take}
 use Rattle.std.proofs.lemmas.List.Folds.{list_any-append}
 use Rattle.std.proofs.lemmas.Option.{slice_get_within}
 use Rattle.tg_term.proofs.PartLaws.{take_at}
 use Rattle.tg_accept.specs.Core.{same_head}
-use Rattle.tg_accept.specs.Resolved.{Head, zero_head, successor_head, of}
-use Rattle.indexmap.specs.IndexMap.{get}
-use Rattle.tg_equations.specs.declared.places.Place.{Place}
+use Rattle.tg_accept.specs.Resolved.{Head}
 use Rattle.tg_equations.specs.declared.places.Places.{Places}
 use Rattle.tg_equations.specs.Places.{placed_from, held, noted}
 
@@ -44,7 +42,7 @@ placed_last is n (y ∷ ys) x = go (is y) (is x) (any_last is ys x) (placed_last
         → suc n + length ys ≡ n + suc (length ys)
         → (if b then Some (record { first = n; only = not (list_any is (ys ++ x ∷ [])) }) else placed_from is (suc n) (ys ++ x ∷ []))
         ≡ (if a then Some (noted (n + suc (length ys)) (if b then Some (record { first = n; only = not (list_any is ys) }) else placed_from is (suc n) ys))
-            else (if b then Some (record { first = n; only = not (list_any is ys) }) else placed_from is (suc n) ys))
+        else (if b then Some (record { first = n; only = not (list_any is ys) }) else placed_from is (suc n) ys))
     go true true e h k = ap (λ c. Some (record { first = n; only = not c })) (e ∙ or_true (list_any is ys))
       where
         or_true : (b : Bool) → (b || true) ≡ true

@@ -1,11 +1,11 @@
 -- Typings of equations and specifications, by those of their terms.
-use Rattle.std.proofs.Common.{ℕ, zero, suc, ◌≡◌, Bool, true, false, nat_eq, List, [], ◌∷◌, ◌++◌, map, reverse, length, Option, Some, None, refl, sym, ◌∙◌, ap, subst, if◌then◌else◌}
+use Rattle.std.proofs.Common.{ℕ, zero, suc, ◌≡◌, Bool, true, false, nat_eq, List, [], ◌∷◌, ◌++◌, map, length, Option, Some, None, refl, sym, ◌∙◌, ap, subst, if◌then◌else◌}
 use Rattle.std.specs.Prelude.{slice_get, option_map, option_and_then, unwrap_or}
 use Rattle.tg_model.specs.Types as types
 use Rattle.tg_model.specs.Types.{Ty, Tys, nat, bool, parameter, meta, applied, tys, elements}
-use Rattle.tg_model.specs.Theory.{Theory, Function, Owned, constructor_at, numbered, instance, instances}
-use Rattle.tg_model.specs.TermTyping.{Typing, type_of}
-use Rattle.tg_accept.specs.Declared.{Declared, theory, no_program}
+use Rattle.tg_model.specs.Theory.{Theory, Function, Owned, constructor_at, instance, instances}
+use Rattle.tg_model.specs.TermTyping.{Typing}
+use Rattle.tg_accept.specs.Declared.{Declared, theory}
 use Rattle.tg_accept.specs.Equations.{Pattern, variable, matched, Equation, left_types, opened, parts, own_parameters, IsEquationTyping}
 use Rattle.tg_accept.specs.Functions.{self_of}
 use Rattle.tg_accept.specs.Kept.{IsKept}
@@ -13,10 +13,9 @@ use Rattle.tg_accept.specs.Meant.{AreMade}
 use Rattle.tg_accept.specs.Programs.{IsSpecificationTyping}
 use Rattle.tg_accept.specs.Resolved as resolveds
 use Rattle.tg_accept.specs.ResolvedTyping.{head_at, IsTypingOf}
-use Rattle.tg_accept.specs.Typings.{HasTyping, HasOneTyping, HasTwoTypings}
 use Rattle.tg_shared_types.specs.Growth.{IsDeclared, AreDeclared}
 use Rattle.tg_types.specs.declared.types.Ty as declared
-use Rattle.tg_types.specs.Types.{ty, types as types_of, ty-Bool}
+use Rattle.tg_types.specs.Types.{ty}
 use Rattle.tg_typing.specs.Answers as answers
 use Rattle.tg_typing.specs.Answers.{Counts, IsTypingAt}
 use Rattle.tg_typing.specs.Contexts.{HasClosedTypes}
@@ -198,7 +197,7 @@ module _ (th : Theory) (self : Option Function) (x : Function) (e : Equation) wh
           ))
           (λ d w. (
             subst (λ us. IsTypingOf th self us (map ty vars) [] e.body d) (sym same_parameters)
-            (subst (λ us. IsTypingOf th self (own_parameters self) us [] e.body d) (sym (s ∙ ap (λ (k : List Ty × List Ty). k.0 ++ k.1) (let r : l ≡ w.0 = cc (at, w.1) in r))) w.2),
+                (subst (λ us. IsTypingOf th self (own_parameters self) us [] e.body d) (sym (s ∙ ap (λ (k : List Ty × List Ty). k.0 ++ k.1) (let r : l ≡ w.0 = cc (at, w.1) in r))) w.2),
             w.3,
           ))
           n h

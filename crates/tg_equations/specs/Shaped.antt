@@ -1,5 +1,5 @@
 -- What is asked of a function's equations together.
-use Rattle.std.specs.Prelude.{ℕ, ◌≡◌, List, [], ◌∷◌, length}
+use Rattle.std.specs.Prelude.{◌≡◌, List, [], ◌∷◌, length}
 use Rattle.tg_model.specs.Theory.{Function}
 use Rattle.tg_accept.specs.Checks.{Each}
 use Rattle.tg_accept.specs.Core.{heads_of}

@@ -1,5 +1,5 @@
 -- Branches as they are written, and their places.
-use Rattle.std.specs.Prelude.{ℕ, ◌≡◌, List, [], ◌∷◌, map, Option, Some, None, option_map, option_and_then, unwrap_or, slice_get}
+use Rattle.std.specs.Prelude.{◌≡◌, List, Option, option_map, option_and_then, unwrap_or, slice_get}
 use Rattle.tg_model.specs.Tree.{truth}
 use Rattle.std.specs.Prelude.{false}
 use Rattle.tg_accept.specs.Core as model

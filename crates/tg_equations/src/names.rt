@@ -32,10 +32,7 @@ pub(crate) fn are_different(alloc: Global, names: &[Name]) -> Result<bool, Alloc
 
 /// Whether no variable stands twice on a left side.
 #[tactic(auto, using(crate::proofs::DifferentLaws::taking))]
-pub(crate) fn are_left_names_different(
-    alloc: Global,
-    ps: &[Pattern],
-) -> Result<bool, AllocError>
+pub(crate) fn are_left_names_different(alloc: Global, ps: &[Pattern]) -> Result<bool, AllocError>
     ensures { IfOk result (λ yes. yes ≡ are_different bytes_eq (left_names (patterns ps.now))) }
 {
     let mut seen = IndexSet::new(alloc);

@@ -1,4 +1,4 @@
-use Rattle.std.proofs.Common.{◌≡◌, true, map, take}
+use Rattle.std.proofs.Common.{◌≡◌, true, take}
 use Rattle.tg_accept.specs.Core.{same_head}
 use Rattle.tg_equations.specs.Checked.{are_different}
 use Rattle.tg_equations.specs.Placed.{ArePlaces}

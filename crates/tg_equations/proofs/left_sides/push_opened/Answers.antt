@@ -1,4 +1,4 @@
-use Rattle.std.proofs.Common.{◌≡◌, ◌∙◌, ◌∷◌, ◌++◌, [], map, Some, sym, ap, rules}
+use Rattle.std.proofs.Common.{◌∙◌, ◌∷◌, ◌++◌, [], map, ap}
 use Rattle.std.proofs.lemmas.List.{map-append}
 use Rattle.tg_model.specs.Types.{nat}
 use Rattle.tg_accept.specs.Declared.{theory}
@@ -14,6 +14,6 @@ pub returns-in_ok-push-in-Successor : goal.returns-in_ok-push-in-Successor
 returns-in_ok-push-in-Successor c = (
   nat ∷ [],
   ap (λ h. as_many c.args.count (opened (theory [] c.args.declared.now) (head h) (ty c.args.t.now))) c.in-Successor.is
-  ∙ opened_successor (theory [] c.args.declared.now) (ty c.args.t.now) c.in-Some.n c.args.count (map ty c.in-Some.us.now) c.in-Some.ensures c.if-n-ne0.false c.if-count-ne1.false,
+      ∙ opened_successor (theory [] c.args.declared.now) (ty c.args.t.now) c.in-Some.n c.args.count (map ty c.in-Some.us.now) c.in-Some.ensures c.if-n-ne0.false c.if-count-ne1.false,
   ap (map ty) c.in_ok-push-in-Successor.ensures.ok ∙ map-append ty c.args.all.now (Nat ∷ []) ∙ ap (λ u. map ty c.args.all.now ++ u ∷ []) ty-Nat,
 )

@@ -1,4 +1,4 @@
-use Rattle.std.proofs.Common.{◌≡◌, ◌∙◌, Some, None, false, refl, sym, ap}
+use Rattle.std.proofs.Common.{◌≡◌, ◌∙◌, Some, false, refl, sym, ap}
 use Rattle.std.specs.Prelude.{slice_get, option_map}
 use Rattle.std.specs.Option.{option_map_or}
 use Rattle.std.proofs.lemmas.Option.{slice_get_read, slice_get-map}
@@ -24,11 +24,11 @@ loop-at-preserved c =
     let is = λ (h : Head) (e : Equation). is_for h e.patterns in
     let read = ap (λ ps. first_head (patterns ps)) c.as_slice.ensures in
     elim c.match-first_head.branch [
-      in-Some+in_ok-note-in-Some w ↦ placed_next is es c.loop-at.at x at c.loop-at.places c.match-first_head.places (head w.in-Some.h)
+      | in-Some+in_ok-note-in-Some w ↦ placed_next is es c.loop-at.at x at c.loop-at.places c.match-first_head.places (head w.in-Some.h)
           (λ h. for_first h x.patterns ∙ ap (λ o. option_map_or (λ k. same_head k h) o false) (sym (w.in-Some.ensures ∙ read))) c.loop-at.invariant
           (λ h. ap (λ p. held p h) w.places-is ∙ w.in_ok-note-in-Some.ensures.noted h)
       | in-None w ↦ (λ h.
-            ap (λ p. held p h) w.places-is
-            ∙ placed_skip is es c.loop-at.at x at c.loop-at.places
-            (λ h. for_first h x.patterns ∙ ap (λ o. option_map_or (λ k. same_head k h) o false) (sym (w.in-None.ensures ∙ read))) c.loop-at.invariant h)
+          ap (λ p. held p h) w.places-is
+          ∙ placed_skip is es c.loop-at.at x at c.loop-at.places
+          (λ h. for_first h x.patterns ∙ ap (λ o. option_map_or (λ k. same_head k h) o false) (sym (w.in-None.ensures ∙ read))) c.loop-at.invariant h)
     ]

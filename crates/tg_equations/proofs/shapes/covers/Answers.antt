@@ -1,4 +1,4 @@
-use Rattle.std.proofs.Common.{◌≡◌, ◌∙◌, [], map, subst, ap, sym}
+use Rattle.std.proofs.Common.{◌∙◌, [], map, ap}
 use Rattle.std.specs.List.{list_all}
 use Rattle.tg_accept.specs.Core.{heads_of}
 use Rattle.tg_accept.specs.Declared.{theory}

@@ -1,4 +1,4 @@
-use Rattle.std.proofs.Common.{◌≡◌, ◌∙◌, ap}
+use Rattle.std.proofs.Common.{◌∙◌, ap}
 use Rattle.std.specs.Str.{bytes_eq}
 use Rattle.tg_accept.specs.Equations.{left_names}
 use Rattle.tg_declarations.specs.View.{function}

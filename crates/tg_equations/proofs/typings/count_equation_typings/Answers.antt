@@ -1,12 +1,10 @@
-use Rattle.std.proofs.Common.{◌≡◌, ◌∙◌, [], map, Some, refl, sym, ap, subst}
+use Rattle.std.proofs.Common.{◌≡◌, ◌∙◌, [], map, Some, sym, ap, subst}
 use Rattle.std.specs.Prelude.{option_map}
-use Rattle.tg_model.specs.Types.{tys}
 use Rattle.tg_accept.specs.Declared.{theory}
 use Rattle.tg_accept.specs.Equations.{left_types}
 use Rattle.tg_accept.specs.Functions.{self_of}
 use Rattle.tg_declarations.specs.View.{function}
-use Rattle.tg_shared_types.specs.Growth.{AreDeclared}
-use Rattle.tg_types.specs.Types.{ty, types}
+use Rattle.tg_types.specs.Types.{ty}
 use Rattle.tg_typing.specs.Answers.{Counts, IsTypingAt}
 use Rattle.tg_typing.specs.Contexts.{HasClosedTypes}
 use Rattle.tg_typing.specs.View.{resolved}

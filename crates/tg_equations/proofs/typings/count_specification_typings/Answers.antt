@@ -1,4 +1,4 @@
-use Rattle.std.proofs.Common.{◌≡◌, [], map, None, refl, sym, ap, subst}
+use Rattle.std.proofs.Common.{sym, subst}
 use Rattle.tg_model.specs.Types.{tys}
 use Rattle.tg_shared_types.specs.Growth.{AreDeclared}
 use Rattle.tg_typing.specs.View.{resolved}
