@@ -28,8 +28,8 @@ struct Checks<'a> {
     named: bool,
 }
 
-/// Whether each `case` of a term has exactly one branch for each constructor of its datatype, and no two for
-/// one constructor.
+/// Whether each `case` of a term has a branch for each constructor of its datatype, and no two for one
+/// constructor.
 pub fn are_cases_right(
     alloc: Global,
     declared: &Declarations,

@@ -4,7 +4,7 @@ ghost use Rattle.tg_accept.specs.Core.{core, cores, written, arranged, heads_of}
 ghost use Rattle.tg_accept.specs.Declared.{theory};
 ghost use Rattle.tg_equations.specs.Written.{written_branch, branch_at, no_branch, AreBranchPlaces};
 ghost use Rattle.tg_model.specs.Tree.{trees};
-ghost use Rattle.tg_term.specs.View.{arms};
+ghost use Rattle.tg_term.specs.View.{arms, tree};
 ghost use Rattle.tg_typing.specs.View.{resolved, all_resolved, branches};
 
 use crate::heads::heads;
@@ -37,46 +37,42 @@ pub fn core_term(
 ) -> Result<Term, AllocError>
     ensures { IfOk result (λ r. r ≡ core (theory [] declared.now) own (resolved t.now)) }
 {
+    let node = core_node(alloc, declared, own, t)?;
+    Term::new(alloc, node)
+}
+
+#[cycle(core)]
+#[tactic(auto, using(crate::proofs::CoreLaws::cores_of))]
+fn core_node(
+    alloc: Global,
+    declared: &Declarations,
+    own: FunId,
+    t: &Resolved,
+) -> Result<Node, AllocError>
+    ensures { IfOk result (λ node. tree node ≡ core (theory [] declared.now) own (resolved t.now)) }
+{
     match t {
-        Resolved::Bound(k) => Term::new(alloc, Node::Bound(*k)),
-        Resolved::Free(n) => Term::new(alloc, Node::Free(*n)),
-        Resolved::Lit(n) => Term::new(alloc, Node::Lit(*n)),
-        Resolved::Truth(b) => Term::new(alloc, Node::Truth(*b)),
-        Resolved::Con(c, ts) => {
-            let ts = core_all(alloc, declared, own, ts.as_slice())?;
-            Term::new(alloc, Node::Con(*c, ts))
-        }
-        Resolved::Call(f, ts) => {
-            let ts = core_all(alloc, declared, own, ts.as_slice())?;
-            Term::new(alloc, Node::Call(*f, ts))
-        }
-        Resolved::Own(ts) => {
-            let ts = core_all(alloc, declared, own, ts.as_slice())?;
-            Term::new(alloc, Node::Call(own, ts))
-        }
-        Resolved::Misused(_) => Term::new(alloc, Node::Truth(false)),
-        Resolved::Put(ts) => {
-            let ts = core_all(alloc, declared, own, ts.as_slice())?;
-            Term::new(alloc, Node::Put(ts))
-        }
-        Resolved::If(ts) => {
-            let ts = core_all(alloc, declared, own, ts.as_slice())?;
-            Term::new(alloc, Node::If(ts))
-        }
+        Resolved::Bound(k) => Ok(Node::Bound(*k)),
+        Resolved::Free(n) => Ok(Node::Free(*n)),
+        Resolved::Lit(n) => Ok(Node::Lit(*n)),
+        Resolved::Truth(b) => Ok(Node::Truth(*b)),
+        Resolved::Con(c, ts) => Ok(Node::Con(*c, core_all(alloc, declared, own, ts.as_slice())?)),
+        Resolved::Call(f, ts) => Ok(Node::Call(*f, core_all(alloc, declared, own, ts.as_slice())?)),
+        Resolved::Own(ts) => Ok(Node::Call(own, core_all(alloc, declared, own, ts.as_slice())?)),
+        Resolved::Misused(_) => Ok(Node::Truth(false)),
+        Resolved::Put(ts) => Ok(Node::Put(core_all(alloc, declared, own, ts.as_slice())?)),
+        Resolved::If(ts) => Ok(Node::If(core_all(alloc, declared, own, ts.as_slice())?)),
+        Resolved::Op(o, ts) => Ok(Node::Op(*o, core_all(alloc, declared, own, ts.as_slice())?)),
         Resolved::Case(n, t, bs) => {
             let t = core_term(alloc, declared, own, t.get())?;
             let bs = core_branches(alloc, declared, own, bs.as_slice())?;
             let arms = arrange(alloc, declared, *n, bs.as_slice())?;
-            Term::new(alloc, Node::Case(*n, t, arms))
+            Ok(Node::Case(*n, t, arms))
         }
         Resolved::Let(t, body) => {
             let t = core_term(alloc, declared, own, t.get())?;
             let body = core_term(alloc, declared, own, body.get())?;
-            Term::new(alloc, Node::Let(t, body))
-        }
-        Resolved::Op(o, ts) => {
-            let ts = core_all(alloc, declared, own, ts.as_slice())?;
-            Term::new(alloc, Node::Op(*o, ts))
+            Ok(Node::Let(t, body))
         }
     }
 }

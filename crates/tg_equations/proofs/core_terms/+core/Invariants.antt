@@ -8,13 +8,16 @@ use Rattle.tg_equations.proofs.CoreLaws.{core_seen}
 use Rattle.tg_equations.proofs.core_terms.+core.Given as goal
 
 abbrev pub decreases-core_term : goal.decreases-core_term
-decreases-core_term l = 2 * size (resolved l.t.now)
+decreases-core_term l = 3 * size (resolved l.t.now) + 1
+
+abbrev pub decreases-core_node : goal.decreases-core_node
+decreases-core_node l = 3 * size (resolved l.t.now)
 
 abbrev pub decreases-core_all : goal.decreases-core_all
-decreases-core_all l = 2 * sizes (all_resolved l.ts.now) + 1
+decreases-core_all l = 3 * sizes (all_resolved l.ts.now) + 2
 
 abbrev pub decreases-core_branches : goal.decreases-core_branches
-decreases-core_branches l = 2 * branch_sizes (branches l.bs.now) + 1
+decreases-core_branches l = 3 * branch_sizes (branches l.bs.now) + 2
 
 abbrev pub invariant-core_all-loop-t : goal.invariant-core_all-loop-t
 invariant-core_all-loop-t l = l.all ≡ map (λ t. core (theory [] l.declared) l.own (resolved t)) (take l.t-index l.ts)
