@@ -1,0 +1,8 @@
+use Rattle.std.proofs.Common.{[]}
+use Rattle.tg_accept.specs.Declared.{theory}
+use Rattle.tg_typing.specs.View.{resolved}
+use Rattle.tg_equations.proofs.CheckedLaws.{cases_right}
+use Rattle.tg_equations.proofs.cases.are_cases_right.Goals as goal
+
+pub returns : goal.returns
+returns c = cases_right (theory [] c.args.declared.now) (resolved c.args.t.now) c.in_ok-right.right c.in_ok-right.ensures

@@ -1,0 +1,9 @@
+pub mod Places
+pub mod Written
+pub mod Checked
+pub mod Placed
+pub mod View
+pub mod LeftSides
+pub mod Told
+pub mod Matched
+pub mod Shaped
