@@ -53,7 +53,7 @@ fn core_node(
 {
     match t {
         Resolved::Bound(k) => Ok(Node::Bound(*k)),
-        Resolved::Free(n) => Ok(Node::Free(*n)),
+        Resolved::Free(n) => Ok(Node::Free(u32::try_from(*n).map_err(|_| AllocError)?)),
         Resolved::Lit(n) => Ok(Node::Lit(*n)),
         Resolved::Truth(b) => Ok(Node::Truth(*b)),
         Resolved::Con(c, ts) => Ok(Node::Con(*c, core_all(alloc, declared, own, ts.as_slice())?)),

@@ -12,6 +12,8 @@ pub mod LeftLaws
 pub mod EquationLaws
 pub mod SignatureLaws
 pub mod MadeLaws
+pub mod DatatypeLaws
+pub mod ProgramLaws
 pub mod ScopeLaws
 pub mod UseLaws
 pub mod EnteringLaws

@@ -6,7 +6,11 @@ use Rattle.std.proofs.lemmas.Bool.{lt-ltb, ltb-true}
 use Rattle.std.proofs.lemmas.Bool.Decides.{eqb_tells}
 use Rattle.std.proofs.lemmas.Option.{slice_get-map}
 use Rattle.tg_accept.specs.Declared.{Declared, theory, with_datatype}
-use Rattle.tg_accept.specs.Meant.{AreMade, AreConstructorsMade}
+use Rattle.std.specs.List.{list_all}
+use Rattle.std.proofs.lemmas.List.{map-append}
+use Rattle.tg_accept.specs.Meant.{AreMade, AreConstructorsMade, IsDatatypeMeant}
+use Rattle.tg_declarations.specs.declared.definitions.ConDef.{ConDef}
+use Rattle.tg_declarations.specs.View.{constructor}
 use Rattle.tg_declarations.specs.View.{datatype}
 use Rattle.tg_declarations.specs.declared.definitions.DataDef.{DataDef}
 use Rattle.tg_model.specs.Theory.{Theory, Datatype, numbered}
@@ -172,3 +176,37 @@ module _ (th : Theory) (params : ℕ) where
 
 pub made_tells : (D : Declared) (params : ℕ) (ts : List types.Ty) → (are_made (counts D None) params (tys ts) ≡ true) ↔ AreMade (theory [] D) params ts
 made_tells D params ts = (all_to (theory [] D) params (tys ts), all_back (theory [] D) params (tys ts))
+
+-- one more datatype
+more_counts : (D : Declared) (m : Datatype) → counts D (Some m.parameters) ≡ arities (with_datatype D m).datatypes
+more_counts D m = sym (map-append (λ (y : Datatype). y.parameters) D.datatypes (m ∷ []))
+
+abbrev pub ConstructorsMade : Declared → ℕ → List ConDef → Bool
+ConstructorsMade D params cons = list_all (λ ts. are_made (counts D (Some params)) params (model_types ts)) (map (λ (c : ConDef). c.args) cons)
+
+module _ (D : Declared) (m : Datatype) where
+  constructors_made : (cs : List ConDef) → ConstructorsMade D m.parameters cs ≡ true
+      → AreConstructorsMade (theory [] (with_datatype D m)) m.parameters (map constructor cs)
+  constructors_made [] e = tt
+  constructors_made (c ∷ cs) e =
+      let p = both (are_made (counts D (Some m.parameters)) m.parameters (model_types c.args)) (ConstructorsMade D m.parameters cs) e in
+      (all_to (theory [] (with_datatype D m)) m.parameters (model_types c.args)
+          (subst (λ l. are_made l m.parameters (model_types c.args) ≡ true) (more_counts D m) p.0), constructors_made cs p.1)
+
+  constructors_back : (cs : List ConDef) → AreConstructorsMade (theory [] (with_datatype D m)) m.parameters (map constructor cs)
+      → ConstructorsMade D m.parameters cs ≡ true
+  constructors_back [] h = refl
+  constructors_back (c ∷ cs) h =
+      joined (are_made (counts D (Some m.parameters)) m.parameters (model_types c.args)) (ConstructorsMade D m.parameters cs)
+      (subst (λ l. are_made l m.parameters (model_types c.args) ≡ true) (sym (more_counts D m))
+          (all_back (theory [] (with_datatype D m)) m.parameters (model_types c.args) h.0))
+      (constructors_back cs h.1)
+
+pub datatype_tells : (D : Declared) (def : DataDef) → (ConstructorsMade D def.params def.cons ≡ true) ↔ IsDatatypeMeant D (datatype def)
+datatype_tells D def = (constructors_made D (datatype def) def.cons, constructors_back D (datatype def) def.cons)
+
+pub signature_tells : (D : Declared) (params : ℕ) (ts : List Ty) (t : Ty)
+    → ((is_made (counts D None) params (ty t) && are_made (counts D None) params (model_types ts)) ≡ true) ↔ AreMade (theory [] D) params (ty t ∷ map ty ts)
+signature_tells D params ts t = made_tells D params (ty t ∷ map ty ts)
+
+pub ruleset telling = (datatype_tells)

@@ -1,24 +1,25 @@
 -- What the names are declared as.
-use Rattle.std.proofs.Common.{ℕ, suc, ◌≡◌, ◌+◌, ◌≤◌, Bool, true, false, not, ◌||◌, map, take, drop, length, subst, append_assoc, List, [], ◌∷◌, ◌++◌, Some, None, refl, sym, ◌∙◌, ap, if◌then◌else◌}
+use Rattle.std.proofs.Common.{ℕ, suc, ◌≡◌, ◌+◌, ◌≤◌, Bool, true, false, not, ◌||◌, map, take, drop, length, subst, append_assoc, List, [], ◌∷◌, ◌++◌, Some, None, refl, sym, ◌∙◌, ap, if◌then◌else◌, arith}
 use Rattle.std.specs.Option.{option_map_or}
 use Rattle.std.specs.Str.{bytes_eq}
-use Rattle.std.specs.Prelude.{slice_get}
+use Rattle.std.specs.Prelude.{slice_get, is_some}
 use Rattle.std.proofs.lemmas.List.{map-append, take-append-drop, take_all}
 use Rattle.tg_model.specs.Theory.{Datatype, Constructor, Function, Program}
 use Rattle.tg_model.specs.Accepted.{constructor_names as model_names}
 use Rattle.tg_term.proofs.PartLaws.{drop_at}
-use Rattle.tg_declarations.specs.View.{datatype, constructor}
-use Rattle.tg_declarations.specs.declared.definitions.ConDef.{ConDef}
-use Rattle.tg_declarations.specs.declared.definitions.DataDef.{DataDef}
-use Rattle.tg_theory.specs.Taking.{constructor_names}
+use Rattle.tg_accept.specs.Datatypes.{are_taken, names_in}
+use Rattle.tg_accept.specs.Raw.{RawConstructor}
+use Rattle.tg_grammar.specs.declared.declarations.RawConDef.{RawConDef}
+use Rattle.tg_theory.specs.Names.{HaveSameNames}
+use Rattle.tg_infer.specs.View.{raw_constructor}
 use Rattle.tg_accept.specs.Declared.{Declared, with_datatype, with_function, with_program}
 use Rattle.tg_accept.specs.Faults.{is_taken, first_taken}
 use Rattle.tg_accept.specs.Kept.{names_of_values}
 use Rattle.tg_accept.specs.Meaning as meaning
 use Rattle.tg_accept.specs.Meaning.{number_of, word_named, constructor_named}
-use Rattle.tg_theory.proofs.Taken.{taken_append, HasTaken, begin_taking, next_names}
+use Rattle.tg_theory.proofs.Taken.{taken_append, first_same, next_free, next_taken}
 use Rattle.tg_infer.specs.declared.words.Words.{Words}
-use Rattle.tg_infer.specs.Words.{AreWordsOf, HaveDatatype, HaveFunction, HaveProgram, word_in, values_in, program_names}
+use Rattle.tg_infer.specs.Words.{AreWordsOf, HaveType, HaveConstructors, Takes, HaveFunction, HaveProgram, word_in, values_in, program_names}
 
 pub taken_in : (x : List ℕ) (w : Words)
     → is_taken x (values_in w) ≡ (is_taken x w.constructors || (is_taken x w.functions || is_taken x (program_names w.program)))
@@ -52,61 +53,102 @@ same_constructor w D x h = ap (number_of x) h.constructors
 
 -- ---- adding names
 
--- a name that stands next is free where none of the names is taken
-pub next_is_free : (old first rest now : List (List ℕ)) (x : List ℕ) → HasTaken old first (x ∷ rest) now → first_taken old (first ++ x ∷ rest) ≡ None
-    → is_taken x now ≡ false
-next_is_free old first rest now x h none = go (is_taken x now) (sym h.left ∙ none)
+-- a name behind the constructors' is one more name
+same_behind : (w v : Words) (x : List ℕ) → v.constructors ≡ w.constructors ++ x ∷ [] → v.functions ≡ w.functions → v.program ≡ w.program
+    → HaveSameNames (values_in w ++ x ∷ []) (values_in v)
+same_behind w v x c f p y =
+    taken_append y (values_in w) (x ∷ []) ∙ ap (λ b. b || is_taken y (x ∷ [])) (taken_in y w)
+    ∙ turn (is_taken y w.constructors) (is_taken y w.functions || is_taken y (program_names w.program)) (is_taken y (x ∷ []))
+    ∙ ap (λ b. b || (is_taken y w.functions || is_taken y (program_names w.program))) (sym (taken_append y w.constructors (x ∷ [])))
+    ∙ (λ i. is_taken y (sym c i) || (is_taken y (sym f i) || is_taken y (program_names (sym p i)))) ∙ sym (taken_in y v)
   where
-    go : (b : Bool) → (if b then Some x else first_taken (x ∷ now) rest) ≡ None → b ≡ false
-    go true e = cc e
-    go false e = refl
+    turn : (a b c : Bool) → ((a || b) || c) ≡ ((a || c) || b)
+    turn true b c = refl
+    turn false true true = refl
+    turn false true false = refl
+    turn false false true = refl
+    turn false false false = refl
 
--- some constructors have numbers now, and the rest is free
-pub record AreNumbered (old now : List (List ℕ)) (cons : List ConDef) (i : ℕ) : Type 0 where
-  pub taken : HasTaken old (constructor_names (take i cons)) (constructor_names (drop i cons)) now
-  pub free : first_taken old (constructor_names cons) ≡ None
+-- some constructors have their names added, and what is left decides
+pub record AreTaking (old now : Words) (cons rest : List RawConstructor) : Type 0 where
+  pub first : List (List ℕ)
+  pub all : names_in cons ≡ first ++ names_in rest
+  pub words : HaveConstructors old now first
+  pub left : first_taken (values_in old) (names_in cons) ≡ first_taken (values_in now) (names_in rest)
 
-pub begin_numbering : (old : List (List ℕ)) (cons : List ConDef) → first_taken old (constructor_names cons) ≡ None → AreNumbered old old cons 0
-begin_numbering old cons free = record { taken = begin_taking old (constructor_names cons); free = free }
+pub begin_taking : (w : Words) (cons : List RawConDef) → AreTaking w w (map raw_constructor cons) (map raw_constructor cons)
+begin_taking w cons = record {
+  first = [];
+  all = refl;
+  words = record { types = refl; constructors = last w.constructors; functions = refl; program = refl };
+  left = refl;
+}
+  where
+    last : (xs : List (List ℕ)) → xs ≡ xs ++ []
+    last [] = refl
+    last (x ∷ xs) = ap (λ l. x ∷ l) (last xs)
 
-whole : (cons : List ConDef) (i : ℕ) (c : ConDef) → slice_get cons i ≡ Some c
-    → constructor_names cons ≡ constructor_names (take i cons) ++ c.name ∷ constructor_names (drop (suc i) cons)
-whole cons i c at =
-    ap constructor_names (sym (take-append-drop i cons)) ∙ map-append (λ (d : ConDef). d.name) (take i cons) (drop i cons)
-    ∙ ap (λ l. constructor_names (take i cons) ++ constructor_names l) (drop_at cons i c at)
+rest_at : (cons : List RawConDef) (i : ℕ) (c : RawConDef) → slice_get cons i ≡ Some c
+    → map raw_constructor (drop i cons) ≡ raw_constructor c ∷ map raw_constructor (drop (i + 1) cons)
+rest_at cons i c e = ap (map raw_constructor) (drop_at cons i c e ∙ ap (λ n. c ∷ drop n cons) (let s : suc i ≡ i + 1 = omega arith in s))
 
-pub number_next : (old now new : List (List ℕ)) (cons : List ConDef) (i : ℕ) (c : ConDef) (free : Bool) → slice_get cons i ≡ Some c → AreNumbered old now cons i
-    → free ≡ not (is_taken c.name now) → new ≡ (if free then now ++ c.name ∷ [] else now) → AreNumbered old new cons (i + 1)
-number_next old now new cons i c free at h is e =
-    let t : HasTaken old (constructor_names (take i cons)) (c.name ∷ constructor_names (drop (suc i) cons)) now =
-    subst (λ l. HasTaken old (constructor_names (take i cons)) (constructor_names l) now) (drop_at cons i c at) h.taken in
-    let n : is_taken c.name now ≡ false =
-    next_is_free old (constructor_names (take i cons)) (constructor_names (drop (suc i) cons)) now c.name t (ap (first_taken old) (sym (whole cons i c at)) ∙ h.free) in
+pub take_next : (old now new : Words) (cons : List RawConDef) (i : ℕ) (c : RawConDef) → slice_get cons i ≡ Some c
+    → AreTaking old now (map raw_constructor cons) (map raw_constructor (drop i cons)) → is_taken c.name (values_in now) ≡ false
+    → new.constructors ≡ now.constructors ++ c.name ∷ [] → new.types ≡ now.types → new.functions ≡ now.functions → new.program ≡ now.program
+    → AreTaking old new (map raw_constructor cons) (map raw_constructor (drop (i + 1) cons))
+take_next old now new cons i c at h free cs ts fs ps =
+    let d = rest_at cons i c at in
+    let rest = names_in (map raw_constructor (drop (i + 1) cons)) in
     record {
-      taken = next_names old cons i c now new at h.taken n (e ∙ ap (λ b. if b then now ++ c.name ∷ [] else now) (is ∙ ap not n));
-      free = h.free;
+      first = h.first ++ c.name ∷ [];
+      all = h.all ∙ ap (λ l. h.first ++ names_in l) d ∙ sym (append_assoc h.first (c.name ∷ []) rest);
+      words = record {
+        types = ts ∙ h.words.types;
+        constructors = cs ∙ ap (λ l. l ++ c.name ∷ []) h.words.constructors ∙ append_assoc old.constructors h.first (c.name ∷ []);
+        functions = fs ∙ h.words.functions;
+        program = ps ∙ h.words.program;
+      };
+      left =
+          h.left ∙ ap (λ l. first_taken (values_in now) (names_in l)) d ∙ next_free (values_in now) rest c.name free
+          ∙ first_same (values_in now ++ c.name ∷ []) (values_in new) rest (same_behind now new c.name cs fs ps);
     }
 
-pub end_numbering : (old now : List (List ℕ)) (cons : List ConDef) (i : ℕ) → AreNumbered old now cons i → length cons ≤ i → now ≡ old ++ constructor_names cons
-end_numbering old now cons i h e = h.taken.taken ∙ ap (λ l. old ++ constructor_names l) (take_all i cons e)
+pub take_stop : (old now : Words) (cons : List RawConDef) (i : ℕ) (c : RawConDef) → slice_get cons i ≡ Some c
+    → AreTaking old now (map raw_constructor cons) (map raw_constructor (drop i cons)) → is_taken c.name (values_in now) ≡ true
+    → are_taken (values_in old) (names_in (map raw_constructor cons)) ≡ true
+take_stop old now cons i c at h taken =
+    ap is_some (h.left ∙ ap (λ l. first_taken (values_in now) (names_in l)) (rest_at cons i c at)
+    ∙ next_taken (values_in now) (names_in (map raw_constructor (drop (i + 1) cons))) c.name taken)
 
-pub ruleset taking = (begin_numbering, number_next, end_numbering)
+pub take_end : (old now : Words) (cons : List RawConDef) → AreTaking old now (map raw_constructor cons) []
+    → Takes old now (names_in (map raw_constructor cons)) true
+take_end old now cons h =
+    (ap is_some h.left, subst (HaveConstructors old now) (sym (h.all ∙ nothing h.first)) h.words)
+  where
+    nothing : (xs : List (List ℕ)) → xs ++ [] ≡ xs
+    nothing [] = refl
+    nothing (x ∷ xs) = ap (λ l. x ∷ l) (nothing xs)
+
+pub is_in_constructors : (w : Words) (x : List ℕ) → is_taken x (values_in w) ≡ false → is_taken x w.constructors ≡ false
+is_in_constructors w x e = go (is_taken x w.constructors) (sym (taken_in x w) ∙ e)
+  where
+    go : (b : Bool) → (b || (is_taken x w.functions || is_taken x (program_names w.program))) ≡ false → b ≡ false
+    go true f = f
+    go false f = refl
+
+pub ruleset taking = (begin_taking)
 
 -- ---- the names stay those of what is declared
 
-pub with_datatype_named : (old new : Words) (D : Declared) (def : DataDef) → AreWordsOf old D → HaveDatatype old new def → AreWordsOf new (with_datatype D (datatype def))
-with_datatype_named old new D def h g = record {
-  types = g.types ∙ ap (λ l. l ++ def.name ∷ []) h.types ∙ sym (map-append (λ (x : Datatype). x.name) D.datatypes (datatype def ∷ []));
-  constructors =
-      g.constructors ∙ (λ i. h.constructors i ++ names_of def.cons i) ∙ sym (names_appended D.datatypes (datatype def));
-  functions = g.functions ∙ h.functions;
-  program = ap program_names g.program ∙ h.program;
+pub with_datatype_named : (old now new : Words) (D : Declared) (m : Datatype) (xs : List (List ℕ)) → AreWordsOf old D → HaveType old now m.name
+    → HaveConstructors now new xs → xs ≡ map (λ (c : Constructor). c.name) m.constructors → AreWordsOf new (with_datatype D m)
+with_datatype_named old now new D m xs h t g e = record {
+  types = g.types ∙ t.types ∙ ap (λ l. l ++ m.name ∷ []) h.types ∙ sym (map-append (λ (x : Datatype). x.name) D.datatypes (m ∷ []));
+  constructors = g.constructors ∙ (λ i. (t.constructors ∙ h.constructors) i ++ e i) ∙ sym (names_appended D.datatypes m);
+  functions = g.functions ∙ t.functions ∙ h.functions;
+  program = ap program_names (g.program ∙ t.program) ∙ h.program;
 }
   where
-    names_of : (cs : List ConDef) → constructor_names cs ≡ map (λ (c : Constructor). c.name) (map constructor cs)
-    names_of [] = refl
-    names_of (c ∷ cs) = ap (λ l. c.name ∷ l) (names_of cs)
-
     last : (xs : List (List ℕ)) → xs ≡ xs ++ []
     last [] = refl
     last (x ∷ xs) = ap (λ l. x ∷ l) (last xs)

@@ -7,4 +7,8 @@ pub mod Entering
 pub mod Finding
 pub mod Params
 pub mod Signatures
+pub mod Named
+pub mod Datatypes
+pub mod Refused
+pub mod Causes
 pub mod Made

@@ -1,7 +1,10 @@
 -- The types of declarations.
-use Rattle.std.specs.Prelude.{ℕ, List, length, map, Option, option_map, option_and_then}
+use Rattle.std.specs.Prelude.{ℕ, List, [], ◌∷◌, None, if◌then◌else◌, length, map, Option, option_map, option_and_then}
 use Rattle.tg_model.specs.Types.{Ty}
 use Rattle.tg_types.specs.Types.{ty}
+use Rattle.tg_accept.specs.Declared.{Declared, theory}
+use Rattle.tg_accept.specs.Faults.{is_taken}
+use Rattle.tg_accept.specs.Meant.{AreMade}
 use Rattle.tg_accept.specs.Functions.{split_last}
 use Rattle.tg_accept.specs.Meaning.{each_meant, type_meant, type_variables}
 use Rattle.tg_accept.specs.Raw.{Name, RawType}
@@ -17,3 +20,11 @@ signature_meant names ts = option_map (λ p. (length (type_variables ts), p)) (t
 
 abbrev pub seen_signature : Signature → ℕ × (List Ty × Ty)
 seen_signature s = (s.params, (map ty s.args, ty s.result))
+
+-- of a value whose name isn't declared yet
+abbrev pub value_meant : List Name → List Name → Name → List RawType → Option (ℕ × (List Ty × Ty))
+value_meant types values x ts = if is_taken x values then None else signature_meant types ts
+
+-- the datatypes in the types are declared and have their numbers of arguments
+abbrev pub IsSignatureMade : Declared → ℕ × (List Ty × Ty) → Type 0
+IsSignatureMade D s = AreMade (theory [] D) s.0 (s.1.1 ∷ s.1.0)

@@ -1,5 +1,5 @@
 -- The names that are declared.
-use Rattle.std.specs.Prelude.{◌≡◌, List, [], ◌∷◌, ◌++◌, Option, Some, None, if◌then◌else◌}
+use Rattle.std.specs.Prelude.{◌≡◌, Bool, true, false, List, [], ◌∷◌, ◌++◌, Option, Some, None, if◌then◌else◌}
 use Rattle.std.specs.Option.{option_map_or}
 use Rattle.tg_model.specs.Accepted.{constructor_names}
 use Rattle.tg_accept.specs.Declared.{Declared}
@@ -8,8 +8,7 @@ use Rattle.tg_accept.specs.Kept.{names_of_types, name_of_program}
 use Rattle.tg_accept.specs.Raw.{Name}
 use Rattle.tg_accept.specs.Meaning as meaning
 use Rattle.tg_accept.specs.Meaning.{number_of, names_of_functions}
-use Rattle.tg_declarations.specs.declared.definitions.DataDef.{DataDef}
-use Rattle.tg_theory.specs.Taking.{constructor_names as declared_names}
+use Rattle.tg_accept.specs.Datatypes.{are_taken}
 use Rattle.tg_infer.specs.declared.words.Word.{Word}
 use Rattle.tg_infer.specs.declared.words.Word.TheVariants as words
 use Rattle.tg_infer.specs.declared.words.Words.{Words}
@@ -43,12 +42,24 @@ word_in w x =
 abbrev pub values_in : Words → List Name
 values_in w = w.constructors ++ (w.functions ++ program_names w.program)
 
--- the names of a datatype and its constructors are added
-pub record HaveDatatype (old new : Words) (def : DataDef) : Type 0 where
-  pub types : new.types ≡ old.types ++ def.name ∷ []
-  pub constructors : new.constructors ≡ old.constructors ++ declared_names def.cons
+-- the name of a datatype is added
+pub record HaveType (old new : Words) (x : Name) : Type 0 where
+  pub types : new.types ≡ old.types ++ x ∷ []
+  pub constructors : new.constructors ≡ old.constructors
   pub functions : new.functions ≡ old.functions
   pub program : new.program ≡ old.program
+
+-- the names of constructors are added
+pub record HaveConstructors (old new : Words) (xs : List Name) : Type 0 where
+  pub types : new.types ≡ old.types
+  pub constructors : new.constructors ≡ old.constructors ++ xs
+  pub functions : new.functions ≡ old.functions
+  pub program : new.program ≡ old.program
+
+-- none of the names was declared, and all are added; or one was, or stands twice
+abbrev pub Takes : Words → Words → List Name → Bool → Type 0
+Takes old new xs true = (are_taken (values_in old) xs ≡ false) × HaveConstructors old new xs
+Takes old new xs false = are_taken (values_in old) xs ≡ true
 
 -- the name of a function is added
 pub record HaveFunction (old new : Words) (x : Name) : Type 0 where

@@ -2,6 +2,7 @@
 #![tactic(auto)]
 
 mod binders;
+mod datatypes;
 mod entering;
 mod equations;
 mod lefts;
@@ -9,6 +10,8 @@ mod made;
 mod numbers;
 mod params;
 mod patterns;
+mod programs;
+mod refusals;
 mod resolving;
 mod scopes;
 mod signatures;

@@ -1,16 +1,38 @@
 //! Whether the datatypes of a type are declared and have their numbers of arguments.
-ghost use Rattle.std.specs.Prelude.{◌≡◌, Some, false, map, nat_eq};
+ghost use Rattle.std.specs.Prelude.{◌≡◌, ◌↔◌, Some, true, false, map, nat_eq};
 ghost use Rattle.std.specs.List.{list_all};
 ghost use Rattle.std.specs.Option.{option_map_or};
+ghost use Rattle.tg_accept.specs.Meant.{IsDatatypeMeant};
+ghost use Rattle.tg_declarations.specs.View.{datatype};
 ghost use Rattle.tg_infer.specs.Made.{counts, is_made, are_made};
+ghost use Rattle.tg_infer.specs.Signatures.{IsSignatureMade, seen_signature};
 ghost use Rattle.tg_model.specs.Theory.{numbered};
 ghost use Rattle.tg_types.specs.Types.{ty, types};
 
-use tg_declarations::{ConDef, Declarations};
+use crate::signatures::Signature;
+use tg_declarations::{ConDef, DataDef, Declarations};
 use tg_types::{DataId, Ty};
 
-/// The types of the arguments of constructors.
-pub(crate) fn are_constructors_made(
+/// Whether the types of a datatype's constructors are made of what is declared, the datatype itself, and its
+/// parameters.
+#[tactic(auto, using(crate::proofs::MadeLaws::telling))]
+pub(crate) fn is_datatype_made(declared: &Declarations, def: &DataDef) -> bool
+    ensures { (result ≡ true) ↔ IsDatatypeMeant declared.now (datatype def.now) }
+{
+    are_constructors_made(declared, def.params, def.cons.as_slice())
+}
+
+/// Whether the declared types are made of what is declared and of the type variables.
+#[tactic(auto, using(crate::proofs::MadeLaws::telling))]
+pub(crate) fn is_signature_made(declared: &Declarations, signature: &Signature) -> bool
+    ensures { (result ≡ true) ↔ IsSignatureMade declared.now (seen_signature signature.now) }
+{
+    let params = signature.params;
+    is_made(declared, None, params, &signature.result)
+        && are_made(declared, None, params, signature.args.as_slice())
+}
+
+fn are_constructors_made(
     declared: &Declarations,
     params: u32,
     cons: &[ConDef],

@@ -13,6 +13,7 @@ use tg_grammar::RawTy;
 use tg_types::Ty;
 
 /// The types of a function or of the program.
+#[derive(Drop)]
 pub(crate) struct Signature {
     /// How many type variables there are.
     pub params: u32,

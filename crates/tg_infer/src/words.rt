@@ -1,13 +1,14 @@
 //! What the names are declared as.
-ghost use Rattle.std.specs.Prelude.{◌≡◌, ◌++◌, false, None, OnOk, option_map};
+ghost use Rattle.std.specs.Prelude.{◌≡◌, false, OnOk, IfOk, map, option_map};
 ghost use Rattle.tg_accept.specs.Declared.{nothing};
-ghost use Rattle.tg_accept.specs.Faults.{is_taken, first_taken};
-ghost use Rattle.tg_theory.specs.Taking.{constructor_names};
-ghost use Rattle.tg_infer.specs.Words.{HaveDatatype, HaveFunction, HaveProgram, AreWordsOf, word, word_in, values_in, program_names};
+ghost use Rattle.tg_accept.specs.Datatypes.{names_in};
+ghost use Rattle.tg_accept.specs.Faults.{is_taken};
+ghost use Rattle.tg_infer.specs.View.{raw_constructor};
+ghost use Rattle.tg_infer.specs.Words.{HaveType, Takes, HaveFunction, HaveProgram, AreWordsOf, word, word_in, values_in, program_names};
 
 use crate::numbers::Numbers;
 use std::alloc::{AllocError, Global};
-use tg_declarations::{ConDef, DataDef};
+use tg_grammar::RawConDef;
 use tg_term::{ConId, FunId};
 use tg_types::Name;
 
@@ -73,14 +74,27 @@ impl Words {
         self.constructors.contains(x) || self.functions.contains(x) || self.is_program(x)
     }
 
-    /// Adds the names of a datatype and its constructors. After an error some of them may have been added.
-    pub fn add_datatype(&mut self, def: &DataDef) -> Result<(), AllocError>
-        requires type_name { is_taken def.now.name self.old.types ≡ false }
-        requires value_names { first_taken self.old.constructors (constructor_names def.now.cons) ≡ None }
-        ensures { OnOk result (HaveDatatype self.old self.new def.now) }
+    /// Adds the name of a datatype.
+    pub fn add_type(&mut self, x: &Name) -> Result<(), AllocError>
+        requires { is_taken x.now self.old.types ≡ false }
+        ensures { OnOk result (HaveType self.old self.new x.now) }
     {
-        let _ = self.types.add(&def.name)?;
-        add_constructors(&mut self.constructors, def.cons.as_slice())
+        let _ = self.types.add(x)?;
+        Ok(())
+    }
+
+    /// Adds the names of constructors, and answers whether none of them was declared or stands twice. Some of
+    /// them may be added where that isn't so, and after an error.
+    #[tactic(auto, using(crate::proofs::WordLaws::taking))]
+    pub fn add_constructors(&mut self, cons: &[RawConDef]) -> Result<bool, AllocError>
+        ensures { IfOk result (λ free. Takes self.old self.new (names_in (map raw_constructor cons.now)) free) }
+    {
+        for con in cons {
+            if self.is_value(&con.name) || !self.constructors.add(&con.name)? {
+                return Ok(false);
+            }
+        }
+        Ok(true)
     }
 
     /// Adds the name of a function.
@@ -108,16 +122,4 @@ impl Words {
             None => false,
         }
     }
-}
-
-/// Gives constructors the next numbers.
-#[tactic(auto, using(crate::proofs::WordLaws::taking))]
-fn add_constructors(numbers: &mut Numbers, cons: &[ConDef]) -> Result<(), AllocError>
-    requires { first_taken numbers.old (constructor_names cons.now) ≡ None }
-    ensures { OnOk result (numbers.new ≡ numbers.old ++ constructor_names cons.now) }
-{
-    for con in cons {
-        let _ = numbers.add(&con.name)?;
-    }
-    Ok(())
 }
