@@ -14,6 +14,8 @@ pub mod SignatureLaws
 pub mod MadeLaws
 pub mod DatatypeLaws
 pub mod ProgramLaws
+pub mod TypingLaws
+pub mod FunctionLaws
 pub mod ScopeLaws
 pub mod UseLaws
 pub mod EnteringLaws

@@ -9,6 +9,7 @@ pub mod Params
 pub mod Signatures
 pub mod Named
 pub mod Datatypes
+pub mod Functions
 pub mod Refused
 pub mod Causes
 pub mod Made

@@ -5,6 +5,9 @@ ghost use Rattle.tg_infer.specs.View.{raw_term, raw_terms, raw_branches};
 
 use tg_grammar::{RawBranch, RawTerm};
 
+/// The most nodes that a term of a declaration may have.
+pub(crate) const MOST_NODES: u32 = 100_000;
+
 /// Whether the term has more nodes than the limit.
 pub fn is_larger(t: &RawTerm, limit: u32) -> bool
     ensures { result ≡ nat_lt limit (nodes (raw_term t.now)) }
