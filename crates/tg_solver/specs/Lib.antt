@@ -1,0 +1,4 @@
+pub mod Numbers
+pub mod Draws
+pub mod Candidates
+pub mod Walk
