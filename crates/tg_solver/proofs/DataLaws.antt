@@ -9,14 +9,18 @@ use Rattle.tg_model.specs.Tree.{Tree}
 use Rattle.tg_model.specs.Value.{Value}
 use Rattle.tg_model.proofs.Booleans.{if_true, if_false}
 use Rattle.rand_pcg.specs.Lcg.{Lcg}
+use Rattle.tg_accept.specs.Declared.{Declared, theory}
+use Rattle.tg_term.specs.declared.classes.Class.{Class}
+use Rattle.tg_types.specs.Types.{ty}
+use Rattle.tg_types.specs.declared.types.Ty.{Ty}
 use Rattle.tg_types.specs.declared.options.Settings.{Settings}
-use Rattle.tg_solver.specs.Numbers.{as_value, as_values, assignments, greatest, last_number, reaching, in_order, most_number}
+use Rattle.tg_solver.specs.Numbers.{is_truth, as_value, as_values, assignments, greatest, last_number, reaching, in_order, most_number}
 use Rattle.tg_solver.specs.Draws.{draw, after_draw, draws_from, draws, generator}
-use Rattle.tg_solver.specs.Candidates.{candidates, holds, satisfies}
+use Rattle.tg_solver.specs.Candidates.{candidates, holds, satisfies, truths_of, first_candidate}
 use Rattle.tg_solver.specs.Walk.{decided_by, stages_from, truths_in, passes, completes, completion, first_completion, first_reaching, first_from, first_after_zeros}
 use Rattle.tg_solver.specs.declared.stages.Stage.{Stage}
 use Rattle.tg_solver.proofs.FindLaws.{find_of_map, find_of_filter, same_test_within, none_passes_within, all_of_flat_map, or_none, or_assoc}
-use Rattle.tg_solver.proofs.HoldLaws.{holds_reads}
+use Rattle.tg_solver.proofs.HoldLaws.{holds_reads, unnamed}
 use Rattle.tg_solver.proofs.PlanLaws.{satisfied, never_satisfied, values_within}
 use Rattle.tg_solver.proofs.DrawLaws.{draw_length}
 
@@ -169,3 +173,16 @@ drawn_above_zero test truths s index o most m z d =
     d ∙ ap (λ n. option_or (first_from test 1 n truths) (find test (draws s.tries s.width truths (generator s.seed index)))) (sym z ∙ m)
 
 pub ruleset above = (none_after, walked_after, drawn_after, drawn_above_zero)
+
+kinds_of : (ts : List Ty) → map (λ t. is_truth (ty t)) ts ≡ map is_truth (map ty ts)
+kinds_of [] = refl
+kinds_of (t ∷ ts) = ap (λ bs. is_truth (ty t) ∷ bs) (kinds_of ts)
+
+-- the candidates of a class, in a theory of any name
+pub of_class : (name : List ℕ) (D : Declared) (th : Theory) (c : Class) (s : Settings) (index : ℕ) (truths : List Bool) (constraints : List Tree) (o : Option (List Value))
+    → theory name D ≡ th → truths ≡ map (λ t. is_truth (ty t)) c.pattern.vars → constraints ≡ c.constraints
+    → o ≡ find (satisfies (theory [] D) constraints) (candidates truths s index) → o ≡ first_candidate th c s index
+of_class name D th c s index truths constraints o named kinds same e =
+    e
+    ∙ (λ i. find (λ vars. list_all (unnamed name D i vars) (same i)) (candidates ((kinds ∙ kinds_of c.pattern.vars) i) s index))
+    ∙ ap (λ th. find (satisfies th c.constraints) (candidates (truths_of c) s index)) named

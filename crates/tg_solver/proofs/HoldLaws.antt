@@ -7,6 +7,8 @@ use Rattle.tg_model.specs.Uses.{uses, AgreeWhere}
 use Rattle.tg_model.specs.Value.{Value, wrong}
 use Rattle.tg_eval.specs.Answering.{is_true, value_part}
 use Rattle.tg_eval.specs.Limited.{limited_value}
+use Rattle.tg_accept.specs.Declared.{Declared, theory}
+use Rattle.tg_eval.proofs.Unnamed.{limited_unnamed}
 use Rattle.tg_eval.proofs.Reading.{limited_reads_used}
 use Rattle.tg_term.proofs.PartLaws.{drop_at}
 use Rattle.tg_solver.specs.Candidates.{holds, satisfies}
@@ -26,3 +28,8 @@ pub all_from : (th : Theory) (vars : List Value) (ts : List Tree) (i : ℕ) (t :
 all_from th vars ts i t e = ap (λ l. satisfies th l vars) (drop_at ts i t e ∙ ap (λ n. t ∷ drop n ts) (sym (add-one i)))
 
 pub ruleset all_hold = (all_from)
+
+-- the name of a theory doesn't matter
+pub unnamed : (name : List ℕ) (D : Declared) → holds (theory [] D) ≡ holds (theory name D)
+unfolding holds
+unnamed name D = λ i vars t. is_true (value_part (limited_unnamed [] name D wrong 500 i 10000 vars [] t))

@@ -15,11 +15,11 @@ use Rattle.tg_solver.specs.Walk.{last_used, decided_by, stages_from, passes}
 
 last_within : (count : ℕ) (t : Tree) → last_used count t ≤ count
 last_within zero t = omega arith
-last_within (suc count) t = by (uses (suc count) t)
+last_within (suc count) t = by (uses (suc count) t) (last_within count t)
   where
-    by : (b : Bool) → (if b then suc count else last_used count t) ≤ suc count
-    by true = omega arith
-    by false = let l = last_within count t in omega arith
+    by : (b : Bool) → last_used count t ≤ count → (if b then suc count else last_used count t) ≤ suc count
+    by true l = omega arith
+    by false l = omega arith
 
 unused_after : (count m : ℕ) (t : Tree) → last_used count t < m → m ≤ count → uses m t ≡ false
 unused_after zero m t l k = absurd (omega arith)
@@ -71,19 +71,15 @@ module _ (test : List Value → Tree → Bool) (reads : (vars vars' : List Value
   pub decided_there : (count : ℕ) (vs : List Value) → length vs ≤ count → (k : ℕ) (constraints : List Tree)
       → list_all (test vs) constraints ≡ true → list_all (test (take k vs)) (decided_by count k constraints) ≡ true
   decided_there count vs within k [] e = refl
-  decided_there count vs within k (t ∷ ts) e = elim (cases_eq (last_used count t) k) [
+  decided_there count vs within k (t ∷ ts) e =
+      let rest : list_all (test (take k vs)) (decided_by count k ts) ≡ true = decided_there count vs within k ts (and_right (test vs t) (list_all (test vs) ts) e) in
+      elim (cases_eq (last_used count t) k) [
       | inl q ↦ subst (λ l. list_all (test (take k vs)) l ≡ true)
           (sym (if_true (t ∷ decided_by count k ts) (decided_by count k ts) (nat_eq (last_used count t) k) (eq-eqb (last_used count t) k q)))
           (and_both (test (take k vs) t) (list_all (test (take k vs)) (decided_by count k ts))
           (sym (reads vs (take k vs) t (agree vs count t k within q)) ∙ and_left (test vs t) (list_all (test vs) ts) e) rest)
       | inr ne ↦ subst (λ l. list_all (test (take k vs)) l ≡ true)
-          (sym (if_false (t ∷ decided_by count k ts) (decided_by count k ts) (nat_eq (last_used count t) k) (not_there ne))) rest ]
-    where
-      rest : list_all (test (take k vs)) (decided_by count k ts) ≡ true
-      rest = decided_there count vs within k ts (and_right (test vs t) (list_all (test vs) ts) e)
-
-      not_there : (last_used count t ≡ k → ⊥) → nat_eq (last_used count t) k ≡ false
-      not_there ne = ne_eqb (last_used count t) k ne
+          (sym (if_false (t ∷ decided_by count k ts) (decided_by count k ts) (nat_eq (last_used count t) k) (ne_eqb (last_used count t) k ne))) rest ]
 
   more_decided : (count : ℕ) (vs : List Value) (k : ℕ) (t : Tree) (ts : List Tree) (b : Bool) → list_all (test (take k vs)) (cond b (t ∷ decided_by count k ts) (decided_by count k ts)) ≡ true
       → list_all (test (take k vs)) (decided_by count k ts) ≡ true

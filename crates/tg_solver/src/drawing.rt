@@ -16,7 +16,6 @@ use tg_term::Term;
 use tg_types::Settings;
 
 /// The first draw at which each constraint is True.
-#[tactic(auto, using(crate::proofs::DrawLaws::drawing))]
 pub(crate) fn first_draw(
     alloc: Global,
     declared: &Declarations,
@@ -51,7 +50,6 @@ fn generator(seed: u64, index: u32) -> Pcg32
 }
 
 /// A draw: one word for each variable, in order, in place of what `vars` had.
-#[tactic(auto, using(crate::proofs::DrawLaws::one_draw))]
 fn draw(
     rng: &mut Pcg32,
     width: u8,
@@ -70,7 +68,6 @@ fn draw(
 }
 
 /// The next word.
-#[tactic(auto, using(crate::proofs::DrawLaws::words))]
 fn next(rng: &mut Pcg32) -> u32
     ensures word { result ≡ word rng.old }
     ensures left { rng.new ≡ after_word rng.old }
@@ -79,7 +76,6 @@ fn next(rng: &mut Pcg32) -> u32
 }
 
 /// The value that a word stands for.
-#[tactic(auto, using(crate::proofs::DrawLaws::remainders))]
 fn of_word(width: u8, truth: bool, word: u32) -> Held
     ensures { result ≡ of_word width truth word }
 {
@@ -91,7 +87,6 @@ fn of_word(width: u8, truth: bool, word: u32) -> Held
 }
 
 /// The word modulo 2^width.
-#[tactic(auto, using(crate::proofs::DrawLaws::remainders))]
 fn low_bits(word: u32, width: u8) -> u32
     ensures { result ≡ word % 2 ^ width }
 {
