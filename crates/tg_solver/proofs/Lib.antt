@@ -6,3 +6,4 @@ pub mod WalkLaws
 pub mod PlanLaws
 pub mod DrawLaws
 pub mod DataLaws
+pub mod KnownCandidates
