@@ -39,12 +39,13 @@ pub draw_more : (width i : ℕ) (truths : List Bool) (d : Bool) (first g next : 
     → vs ≡ draw width (take i truths) first → g ≡ after_draw (take i truths) first → w ≡ word g → next ≡ after_word g
     → v ≡ of_word width (get_or truths i d) w → more ≡ vs ++ v ∷ []
     → (more ≡ draw width (take (i + 1) truths) first) × (next ≡ after_draw (take (i + 1) truths) first)
-draw_more width i truths d first g next vs more w v l drawn left is after value pushed =
-    (pushed
-    ∙ (λ k. drawn k ++ (value ∙ ap (of_word width (get_or truths i d)) (is ∙ ap word left)) k ∷ [])
-    ∙ sym (draw_push width (take i truths) (get_or truths i d) first)
-    ∙ ap (λ bs. draw width bs first) (sym (take_more truths i d l)),
-    after ∙ ap after_word left ∙ sym (after_push (take i truths) (get_or truths i d) first) ∙ ap (λ bs. after_draw bs first) (sym (take_more truths i d l)))
+draw_more width i truths d first g next vs more w v l drawn left is after value pushed = (
+  pushed
+      ∙ (λ k. drawn k ++ (value ∙ ap (of_word width (get_or truths i d)) (is ∙ ap word left)) k ∷ [])
+      ∙ sym (draw_push width (take i truths) (get_or truths i d) first)
+      ∙ ap (λ bs. draw width bs first) (sym (take_more truths i d l)),
+  after ∙ ap after_word left ∙ sym (after_push (take i truths) (get_or truths i d) first) ∙ ap (λ bs. after_draw bs first) (sym (take_more truths i d l)),
+)
 
 pub draws_some : (truths : List Bool) (tries width : ℕ) (g : Lcg) → (length truths == 0) ≡ false → draws tries width truths g ≡ draws_from tries width truths g
 draws_some [] tries width g e = absurd (true≢false e)

@@ -21,14 +21,15 @@ least_fits count = let e = one_to count in omega (arith, e)
 pub most_ends : (count bound m : ℕ) → m ≤ bound → (m + 1) ^ count ≤ 20000 → (m < bound → 20000 < (m + 2) ^ count) → m ≡ most_number count bound
 most_ends count zero m le few over = omega arith
 most_ends count (suc bound) m le few over = elim (cases_eq m (suc bound)) [
-    | inl e ↦ e ∙ sym (if_true (suc bound) (most_number count bound) (nat_le ((suc bound + 1) ^ count) 20000)
-        (le-leb ((suc bound + 1) ^ count) 20000 (subst (λ k. (k + 1) ^ count ≤ 20000) e few)))
-    | inr ne ↦
+  | inl e ↦ e ∙ sym (if_true (suc bound) (most_number count bound) (nat_le ((suc bound + 1) ^ count) 20000)
+      (le-leb ((suc bound + 1) ^ count) 20000 (subst (λ k. (k + 1) ^ count ≤ 20000) e few)))
+  | inr ne ↦
       let below : m ≤ bound = omega arith in
       let more : (m + 2) ^ count ≤ (suc bound + 1) ^ count = pow-le-pow_left (let l : m + 2 ≤ suc bound + 1 = omega arith in l) count in
       let many : 20000 < (m + 2) ^ count = over (omega arith) in
       most_ends count bound m below few (λ l. many)
-      ∙ sym (if_false (suc bound) (most_number count bound) (nat_le ((suc bound + 1) ^ count) 20000) (lt-leb ((suc bound + 1) ^ count) 20000 (omega arith))) ]
+      ∙ sym (if_false (suc bound) (most_number count bound) (nat_le ((suc bound + 1) ^ count) 20000) (lt-leb ((suc bound + 1) ^ count) 20000 (omega arith)))
+]
 
 pub still_fits : (m count : ℕ) → leb ((m + 2) ^ count) 20000 ≡ true → (m + 1 + 1) ^ count ≤ 20000
 still_fits m count e = subst (λ k. k ^ count ≤ 20000) (let s : m + 2 ≡ m + 1 + 1 = omega arith in s) (leb-true ((m + 2) ^ count) 20000 e)

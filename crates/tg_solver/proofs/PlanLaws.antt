@@ -24,12 +24,14 @@ last_within (suc count) t = by (uses (suc count) t) (last_within count t)
 unused_after : (count m : ℕ) (t : Tree) → last_used count t < m → m ≤ count → uses m t ≡ false
 unused_after zero m t l k = absurd (omega arith)
 unused_after (suc count) m t l k = elim (cases_Bool (uses (suc count) t)) [
-    | inl e ↦ let is : last_used (suc count) t ≡ suc count = if_true (suc count) (last_used count t) (uses (suc count) t) e in absurd (omega arith)
-    | inr e ↦ elim (cases_eq m (suc count)) [
-        | inl q ↦ ap (λ n. uses n t) q ∙ e
-        | inr ne ↦
-          let is : last_used (suc count) t ≡ last_used count t = if_false (suc count) (last_used count t) (uses (suc count) t) e in
-          unused_after count m t (omega arith) (omega arith) ] ]
+  | inl e ↦ let is : last_used (suc count) t ≡ suc count = if_true (suc count) (last_used count t) (uses (suc count) t) e in absurd (omega arith)
+  | inr e ↦ elim (cases_eq m (suc count)) [
+    | inl q ↦ ap (λ n. uses n t) q ∙ e
+    | inr ne ↦
+        let is : last_used (suc count) t ≡ last_used count t = if_false (suc count) (last_used count t) (uses (suc count) t) e in
+        unused_after count m t (omega arith) (omega arith)
+  ]
+]
 
 front_read : {A : Type 0} (xs : List A) (k i : ℕ) → i < k → slice_get xs i ≡ slice_get (take k xs) i
 front_read xs zero i l = absurd (omega arith)
@@ -46,10 +48,12 @@ past_front (x ∷ xs) (suc k) (suc i) l = past_front xs k i (omega arith)
 agree : (vs : List Value) (count : ℕ) (t : Tree) (k : ℕ) → length vs ≤ count → last_used count t ≡ k → AgreeWhere (λ m. uses m t) vs (take k vs)
 agree vs count t k within last zero u = refl
 agree vs count t k within last (suc m) u = elim (cases_lt m k) [
-    | inl l ↦ front_read vs k m l
-    | inr le ↦ elim (cases_lt m count) [
-        | inl l ↦ absurd (both_ways (uses (suc m) t) (unused_after count (suc m) t (omega arith) (omega arith)) u)
-        | inr ge ↦ slice_get_past vs m (omega arith) ∙ sym (past_front vs k m (omega arith)) ] ]
+  | inl l ↦ front_read vs k m l
+  | inr le ↦ elim (cases_lt m count) [
+    | inl l ↦ absurd (both_ways (uses (suc m) t) (unused_after count (suc m) t (omega arith) (omega arith)) u)
+    | inr ge ↦ slice_get_past vs m (omega arith) ∙ sym (past_front vs k m (omega arith))
+  ]
+]
 
 same_truths : (a b : Bool) → (a ≡ true → b ≡ true) → (b ≡ true → a ≡ true) → a ≡ b
 same_truths true b f g = sym (f refl)
@@ -74,12 +78,13 @@ module _ (test : List Value → Tree → Bool) (reads : (vars vars' : List Value
   decided_there count vs within k (t ∷ ts) e =
       let rest : list_all (test (take k vs)) (decided_by count k ts) ≡ true = decided_there count vs within k ts (and_right (test vs t) (list_all (test vs) ts) e) in
       elim (cases_eq (last_used count t) k) [
-      | inl q ↦ subst (λ l. list_all (test (take k vs)) l ≡ true)
-          (sym (if_true (t ∷ decided_by count k ts) (decided_by count k ts) (nat_eq (last_used count t) k) (eq-eqb (last_used count t) k q)))
-          (and_both (test (take k vs) t) (list_all (test (take k vs)) (decided_by count k ts))
-          (sym (reads vs (take k vs) t (agree vs count t k within q)) ∙ and_left (test vs t) (list_all (test vs) ts) e) rest)
-      | inr ne ↦ subst (λ l. list_all (test (take k vs)) l ≡ true)
-          (sym (if_false (t ∷ decided_by count k ts) (decided_by count k ts) (nat_eq (last_used count t) k) (ne_eqb (last_used count t) k ne))) rest ]
+        | inl q ↦ subst (λ l. list_all (test (take k vs)) l ≡ true)
+            (sym (if_true (t ∷ decided_by count k ts) (decided_by count k ts) (nat_eq (last_used count t) k) (eq-eqb (last_used count t) k q)))
+            (and_both (test (take k vs) t) (list_all (test (take k vs)) (decided_by count k ts))
+            (sym (reads vs (take k vs) t (agree vs count t k within q)) ∙ and_left (test vs t) (list_all (test vs) ts) e) rest)
+        | inr ne ↦ subst (λ l. list_all (test (take k vs)) l ≡ true)
+            (sym (if_false (t ∷ decided_by count k ts) (decided_by count k ts) (nat_eq (last_used count t) k) (ne_eqb (last_used count t) k ne))) rest
+      ]
 
   more_decided : (count : ℕ) (vs : List Value) (k : ℕ) (t : Tree) (ts : List Tree) (b : Bool) → list_all (test (take k vs)) (cond b (t ∷ decided_by count k ts) (decided_by count k ts)) ≡ true
       → list_all (test (take k vs)) (decided_by count k ts) ≡ true
@@ -91,10 +96,10 @@ module _ (test : List Value → Tree → Bool) (reads : (vars vars' : List Value
   all_decided count vs within [] h = refl
   all_decided count vs within (t ∷ ts) h =
       let here : (last : ℕ) → last_used count t ≡ last → last ≤ count → test vs t ≡ true = λ last is le.
-          reads vs (take last vs) t (agree vs count t last within is)
-          ∙ and_left (test (take last vs) t) (list_all (test (take last vs)) (decided_by count last ts))
-          (subst (λ l. list_all (test (take last vs)) l ≡ true)
-          (if_true (t ∷ decided_by count last ts) (decided_by count last ts) (nat_eq (last_used count t) last) (eq-eqb (last_used count t) last is)) (h last le)) in
+      reads vs (take last vs) t (agree vs count t last within is)
+      ∙ and_left (test (take last vs) t) (list_all (test (take last vs)) (decided_by count last ts))
+      (subst (λ l. list_all (test (take last vs)) l ≡ true)
+      (if_true (t ∷ decided_by count last ts) (decided_by count last ts) (nat_eq (last_used count t) last) (eq-eqb (last_used count t) last is)) (h last le)) in
       and_both (test vs t) (list_all (test vs) ts) (here (last_used count t) refl (last_within count t))
       (all_decided count vs within ts (λ k le. more_decided count vs k t ts (nat_eq (last_used count t) k) (h k le)))
 
@@ -114,13 +119,14 @@ module _ (test : List Value → Tree → Bool) (reads : (vars vars' : List Value
   passes_each count constraints (b ∷ truths) (n ∷ ns) front number len is e k l le =
       let long : length (front ++ as_value b n ∷ []) ≡ length front + 1 = length_push front (as_value b n) in
       elim (cases_eq k number) [
-      | inl q ↦ subst (λ (vs : List Value). list_all (test vs) (decided_by count k constraints) ≡ true) (sym (front_longer front (as_value b n) (as_values truths ns) k (q ∙ is)))
-          (subst (λ j. list_all (test (front ++ as_value b n ∷ [])) (decided_by count j constraints) ≡ true) (sym q)
-          (and_left (list_all (test (front ++ as_value b n ∷ [])) (decided_by count number constraints)) (passes test (front ++ as_value b n ∷ []) (stages_from count (number + 1) truths constraints) ns) e))
-      | inr ne ↦ subst (λ (vs : List Value). list_all (test (take k vs)) (decided_by count k constraints) ≡ true) (append_assoc front (as_value b n ∷ []) (as_values truths ns))
-          (passes_each count constraints truths ns (front ++ as_value b n ∷ []) (number + 1) (omega arith) (omega arith)
-          (and_right (list_all (test (front ++ as_value b n ∷ [])) (decided_by count number constraints)) (passes test (front ++ as_value b n ∷ []) (stages_from count (number + 1) truths constraints) ns) e)
-          k (omega arith) (omega arith)) ]
+        | inl q ↦ subst (λ (vs : List Value). list_all (test vs) (decided_by count k constraints) ≡ true) (sym (front_longer front (as_value b n) (as_values truths ns) k (q ∙ is)))
+            (subst (λ j. list_all (test (front ++ as_value b n ∷ [])) (decided_by count j constraints) ≡ true) (sym q)
+            (and_left (list_all (test (front ++ as_value b n ∷ [])) (decided_by count number constraints)) (passes test (front ++ as_value b n ∷ []) (stages_from count (number + 1) truths constraints) ns) e))
+        | inr ne ↦ subst (λ (vs : List Value). list_all (test (take k vs)) (decided_by count k constraints) ≡ true) (append_assoc front (as_value b n ∷ []) (as_values truths ns))
+            (passes_each count constraints truths ns (front ++ as_value b n ∷ []) (number + 1) (omega arith) (omega arith)
+            (and_right (list_all (test (front ++ as_value b n ∷ [])) (decided_by count number constraints)) (passes test (front ++ as_value b n ∷ []) (stages_from count (number + 1) truths constraints) ns) e)
+            k (omega arith) (omega arith))
+      ]
 
   each_passes : (count : ℕ) (constraints : List Tree) (truths : List Bool) (ns : List ℕ) (front : List Value) (number : ℕ) → length ns ≡ length truths → number ≡ length front + 1
       → EachFront count constraints front (as_values truths ns) → passes test front (stages_from count number truths constraints) ns ≡ true
@@ -159,5 +165,6 @@ module _ (test : List Value → Tree → Bool) (reads : (vars vars' : List Value
   pub never_satisfied : (constraints : List Tree) (count : ℕ) → list_all (test []) (decided_by count 0 constraints) ≡ false
       → (vs : List Value) → length vs ≤ count → list_all (test vs) constraints ≡ false
   never_satisfied constraints count e vs within = elim (cases_Bool (list_all (test vs) constraints)) [
-      | inl t ↦ absurd (both_ways (list_all (test []) (decided_by count 0 constraints)) e (decided_there count vs within 0 constraints t))
-      | inr f ↦ f ]
+    | inl t ↦ absurd (both_ways (list_all (test []) (decided_by count 0 constraints)) e (decided_there count vs within 0 constraints t))
+    | inr f ↦ f
+  ]

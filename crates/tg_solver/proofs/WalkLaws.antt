@@ -93,13 +93,14 @@ module _ (test : List Value → Tree → Bool) (g : ℕ) where
     where
       by : (last : ℕ) → last ≤ g → completion_from test g most vars s [] 0 (last + 1) ≡ completion_from test g most vars s [] g (last + 1 - g)
       by last le = elim (cases_lt last g) [
-          | inr ge ↦ ap (completion_from test g most vars s [] 0) (let c : last + 1 ≡ g + 1 = omega arith in c)
+        | inr ge ↦ ap (completion_from test g most vars s [] 0) (let c : last + 1 ≡ g + 1 = omega arith in c)
             ∙ skipped_to most vars s l g 0 1 (omega arith)
             ∙ (λ i. completion_from test g most vars s [] (let c : 0 + g ≡ g = omega arith in c i) (let c : 1 ≡ last + 1 - g = omega arith in c i))
-          | inl lt ↦ ap (completion_from test g most vars s [] 0) (let c : last + 1 ≡ last + 1 + 0 = omega arith in c)
+        | inl lt ↦ ap (completion_from test g most vars s [] 0) (let c : last + 1 ≡ last + 1 + 0 = omega arith in c)
             ∙ skipped_to most vars s l (last + 1) 0 0 (omega arith)
             ∙ from_none most vars s [] (0 + (last + 1)) ∙ sym (from_none most vars s [] g)
-            ∙ ap (completion_from test g most vars s [] g) (let c : 0 ≡ last + 1 - g = omega arith in c) ]
+            ∙ ap (completion_from test g most vars s [] g) (let c : 0 ≡ last + 1 - g = omega arith in c)
+      ]
 
   pub worth_all : (most : ℕ) (vars : List Value) (s : Stage) (stages : List Stage)
       → completion test g most vars (s ∷ stages) ≡ completion_from test g most vars s stages 0 (last_number g s.truth + 1 - 0)

@@ -36,7 +36,14 @@ pub fn datum(
     ensures { IfOk result (λ r. option_map (map value) r ≡ first_candidate th.now c.now s.now index) }
 {
     let truths = truths(alloc, c.pattern.vars.as_slice())?;
-    let found = first(alloc, th.declarations(), truths.as_slice(), c.constraints.as_slice(), s, index)?;
+    let found = first(
+        alloc,
+        th.declarations(),
+        truths.as_slice(),
+        c.constraints.as_slice(),
+        s,
+        index,
+    )?;
     match found {
         Some(vars) => Ok(Some(plain_all(alloc, vars.as_slice())?)),
         None => Ok(None),

@@ -50,12 +50,7 @@ fn generator(seed: u64, index: u32) -> Pcg32
 }
 
 /// A draw: one word for each variable, in order, in place of what `vars` had.
-fn draw(
-    rng: &mut Pcg32,
-    width: u8,
-    truths: &[bool],
-    vars: &mut Vec<Held>,
-) -> Result<(), AllocError>
+fn draw(rng: &mut Pcg32, width: u8, truths: &[bool], vars: &mut Vec<Held>) -> Result<(), AllocError>
     ensures drawn { OnOk result (vars.new.items ≡ draw width truths.now rng.old) }
     ensures left { OnOk result (rng.new ≡ after_draw truths.now rng.old) }
 {

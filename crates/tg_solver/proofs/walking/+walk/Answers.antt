@@ -19,8 +19,8 @@ pub extended-loop-n-preserved : goal.extended-loop-n-preserved
 extended-loop-n-preserved t c =
     let test = holds (theory [] c.args.walk.now.declared.now) in
     let m = walk_missed test c.args.walk.now.greatest c.args.most c.first_worth-first.result c.last_number-last.result c.loop-n.n c.args.vars.now.items c.loop-n.vars.items c.args.stage.now c.args.rest.now
-        c.last_number-last.ensures c.loop-n.invariant.kept c.loop-n.invariant.left (c.first_worth-first.ensures test c.args.vars.now.items c.args.stage.now)
-        c.in_ok-tried.field-0 c.tried.new.vars.items (omega arith) c.if-branch.false c.in_ok-tried.ensures in
+    c.last_number-last.ensures c.loop-n.invariant.kept c.loop-n.invariant.left (c.first_worth-first.ensures test c.args.vars.now.items c.args.stage.now)
+    c.in_ok-tried.field-0 c.tried.new.vars.items (omega arith) c.if-branch.false c.in_ok-tried.ensures in
     record { kept = m.0; left = m.1 }
 
 pub extended-returns : goal.extended-returns

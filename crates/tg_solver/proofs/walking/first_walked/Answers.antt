@@ -12,7 +12,7 @@ returns-then-branch c =
 pub loop-below-preserved : goal.loop-below-preserved
 loop-below-preserved c =
     let m = next_missed (holds (theory [] c.args.declared.now)) c.args.stages.now c.args.most c.loop-below.below c.loop-below.vars.items c.completed.new.vars.items c.in_ok-completed.field-0
-        c.loop-below-test.true c.if-branch.false c.loop-below.invariant.none c.loop-below.invariant.left c.in_ok-completed.ensures in
+    c.loop-below-test.true c.if-branch.false c.loop-below.invariant.none c.loop-below.invariant.left c.in_ok-completed.ensures in
     record { none = m.0; left = m.1 }
 
 pub returns : goal.returns
