@@ -1,5 +1,5 @@
 -- The parts of the list of candidates, and what the walk has to do with them.
-use Rattle.std.proofs.Common.{ℕ, zero, suc, ◌≡◌, ◌+◌, ◌<◌, ◌≤◌, max, Bool, true, false, ◌&&◌, cond, nat_eq, List, [], ◌∷◌, ◌++◌, map, length, Option, Some, None, option_map, refl, ap, sym, ◌∙◌, subst, arith, All, add-one, if◌then◌else◌}
+use Rattle.std.proofs.Common.{ℕ, zero, suc, ◌≡◌, ◌+◌, ◌≤◌, max, Bool, true, false, ◌&&◌, cond, nat_eq, List, [], ◌∷◌, ◌++◌, map, length, Option, Some, None, option_map, refl, ap, sym, ◌∙◌, arith, All, add-one, if◌then◌else◌}
 use Rattle.std.specs.Option.{option_or}
 use Rattle.std.specs.List.{find, filter, flat_map, list_all, range_with_len}
 use Rattle.std.proofs.lemmas.List.Elements.{All-cons, All-nil, All-map, All-weaker}
@@ -19,7 +19,7 @@ use Rattle.tg_solver.specs.Draws.{draw, after_draw, draws_from, draws, generator
 use Rattle.tg_solver.specs.Candidates.{candidates, holds, satisfies, truths_of, first_candidate}
 use Rattle.tg_solver.specs.Walk.{decided_by, stages_from, truths_in, passes, completes, completion, first_completion, first_reaching, first_from, first_after_zeros}
 use Rattle.tg_solver.specs.declared.stages.Stage.{Stage}
-use Rattle.tg_solver.proofs.FindLaws.{find_of_map, find_of_filter, same_test_within, none_passes_within, all_of_flat_map, or_none, or_assoc}
+use Rattle.tg_solver.proofs.FindLaws.{find_of_map, find_of_filter, same_test_within, none_passes_within, all_of_flat_map, or_assoc}
 use Rattle.tg_solver.proofs.HoldLaws.{holds_reads, unnamed}
 use Rattle.tg_solver.proofs.PlanLaws.{satisfied, never_satisfied, values_within}
 use Rattle.tg_solver.proofs.DrawLaws.{draw_length}

@@ -1,5 +1,5 @@
 -- Constraints at values: what a test of one tells, and of all.
-use Rattle.std.proofs.Common.{ℕ, ◌≡◌, ◌+◌, ◌&&◌, Bool, Some, refl, ap, sym, ◌∙◌, [], ◌∷◌, List, drop, add-one}
+use Rattle.std.proofs.Common.{ℕ, ◌≡◌, ◌+◌, ◌&&◌, Some, refl, ap, sym, ◌∙◌, [], ◌∷◌, List, drop, add-one}
 use Rattle.std.specs.Prelude.{slice_get}
 use Rattle.tg_model.specs.Theory.{Theory}
 use Rattle.tg_model.specs.Tree.{Tree}

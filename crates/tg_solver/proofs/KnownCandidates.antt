@@ -1,7 +1,7 @@
 -- Candidates that are known by hand.
-use Rattle.std.proofs.Common.{◌≡◌, ℕ, true, false, List, [], ◌∷◌, Some, None, find, refl}
+use Rattle.std.proofs.Common.{◌≡◌, ℕ, true, false, [], ◌∷◌, Some, None, find, refl}
 use Rattle.tg_model.specs.Tree.{Tree, free, literal, op, put, two, one, equality, less, successor}
-use Rattle.tg_model.specs.Value.{Value, number, boolean}
+use Rattle.tg_model.specs.Value.{number, boolean}
 use Rattle.tg_model.proofs.KnownValues.{sorting}
 use Rattle.tg_eval.specs.Limited.{limited}
 use Rattle.tg_types.specs.declared.options.Settings.{Settings}

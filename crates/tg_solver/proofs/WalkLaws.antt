@@ -1,16 +1,15 @@
 -- The walk: one variable more, one number more, and numbers that can't reach the greatest one.
-use Rattle.std.proofs.Common.{ℕ, zero, suc, ◌≡◌, ◌+◌, ◌-◌, ◌<◌, ◌≤◌, ◌⊎◌, inl, inr, max, min, Bool, true, false, ◌&&◌, cond, nat_eq, List, [], ◌∷◌, ◌++◌, map, length, take, Option, Some, None, option_map, refl, ap, sym, ◌∙◌, subst, arith, append-nil, append_assoc, add-one, if◌then◌else◌}
+use Rattle.std.proofs.Common.{ℕ, zero, suc, ◌≡◌, ◌+◌, ◌-◌, ◌<◌, ◌≤◌, inl, inr, max, Bool, true, false, ◌&&◌, cond, nat_eq, List, [], ◌∷◌, ◌++◌, map, length, Option, Some, None, option_map, refl, ap, sym, ◌∙◌, arith, append-nil, if◌then◌else◌}
 use Rattle.std.specs.Option.{option_or}
 use Rattle.std.specs.List.{find, flat_map, list_all, range_with_len}
 use Rattle.std.proofs.lemmas.Bool.{cases_lt, ne_eqb}
 use Rattle.std.proofs.lemmas.List.Folds.{find-append}
-use Rattle.std.proofs.lemmas.List.{take_at}
 use Rattle.tg_model.specs.Tree.{Tree}
 use Rattle.tg_model.specs.Value.{Value}
 use Rattle.tg_solver.specs.Numbers.{as_value, as_values, assignments, greatest, last_number}
 use Rattle.tg_solver.specs.Walk.{passes, completes, completion, completion_from, completion_at, ended, truths_in, first_completion}
 use Rattle.tg_solver.specs.declared.stages.Stage.{Stage}
-use Rattle.tg_solver.proofs.FindLaws.{find_of_map, same_test, none_passes, or_none}
+use Rattle.tg_solver.proofs.FindLaws.{find_of_map, same_test, none_passes}
 
 and_false : (a : Bool) → (a && false) ≡ false
 and_false true = refl

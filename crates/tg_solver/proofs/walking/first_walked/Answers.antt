@@ -1,4 +1,4 @@
-use Rattle.std.proofs.Common.{[], arith}
+use Rattle.std.proofs.Common.{[]}
 use Rattle.tg_accept.specs.Declared.{theory}
 use Rattle.tg_solver.specs.Candidates.{holds}
 use Rattle.tg_solver.proofs.WalkLaws.{next_found, next_missed, none_next}
