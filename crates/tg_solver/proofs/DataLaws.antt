@@ -24,7 +24,7 @@ use Rattle.tg_solver.proofs.HoldLaws.{holds_reads, unnamed}
 use Rattle.tg_solver.proofs.PlanLaws.{satisfied, never_satisfied, values_within}
 use Rattle.tg_solver.proofs.DrawLaws.{draw_length}
 
-assignments_length : (g : ℕ) (truths : List Bool) → All (λ ns. length ns ≡ length truths) (assignments g truths)
+pub assignments_length : (g : ℕ) (truths : List Bool) → All (λ ns. length ns ≡ length truths) (assignments g truths)
 assignments_length g [] = All-cons (λ (ns : List ℕ). length ns ≡ 0) [] [] refl (All-nil (λ (ns : List ℕ). length ns ≡ 0))
 assignments_length g (b ∷ truths) =
     all_of_flat_map (λ ns. length ns ≡ suc (length truths)) (λ n. map (λ ns. n ∷ ns) (assignments g truths))

@@ -6,4 +6,5 @@ pub mod WalkLaws
 pub mod PlanLaws
 pub mod DrawLaws
 pub mod DataLaws
+pub mod DataFit
 pub mod KnownCandidates

@@ -21,11 +21,16 @@ use tg_term::{Class, Term, Value};
 use tg_theory::Theory;
 use tg_types::{Settings, Ty};
 
-/// The values of a class's variables, that of `?1` first, at which the limited value of each of its constraints is True:
-/// the first such among the candidates, or `None` where there is none. The candidates are assignments of small numbers,
-/// ordered by their greatest number, and then `tries` draws from the random generator of the seed, whose stream is `index`,
-/// the number of the class. A variable of the truth values has 0 for False and 1 for True; each other one is taken for a
-/// natural. A program call in a constraint gives False. Nothing is allocated for a candidate, but for what evaluations need.
+/// The datum of a class: values of its variables, that of `?1` first, at which the limited value of each constraint is
+/// True. It is the first candidate of that kind, and `None` comes exactly where there is none.
+///
+/// Candidates are the assignments of numbers up to the greatest one, within the bound, with which all variables of the
+/// pattern have at most 20,000 of them, in the order of their greatest number and then of the variables; and then `tries`
+/// draws from the generator of the seed, whose stream is `index`, the number of the class. A truth variable has 0 for
+/// False and 1 for True, and each other one is taken for a natural. A program call in a constraint gives False.
+///
+/// The error comes only where memory is wanting. Candidates take none, but for what their evaluations need; more than
+/// 2^32 - 1 variables, or a value that is higher than 10,000, are answered as want of memory.
 pub fn datum(
     alloc: Global,
     th: &Theory,
@@ -110,6 +115,7 @@ fn zeros(
     }
 }
 
+/// The assignment of zeros.
 fn all_zero(alloc: Global, truths: &[bool]) -> Result<Vec<Held>, AllocError>
     ensures { IfOk result (λ vs. vs.items ≡ map (λ truth. as_value truth 0) truths.now) }
 {

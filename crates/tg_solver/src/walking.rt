@@ -1,4 +1,5 @@
-//! The walk over assignments in their order. It goes on only from values at which all that they decide is true.
+//! The walk over assignments in their order. It goes on only from values at which all that they decide is true. Its depth is
+//! the number of variables, which is 14 at most where numbers go above 0.
 ghost use Rattle.std.specs.Prelude.{◌≡◌, ◌+◌, ◌-◌, Bool, List, [], ◌∷◌, None, IfOk, option_map, if◌then◌else◌};
 ghost use Rattle.tg_accept.specs.Declared.{theory};
 ghost use Rattle.tg_model.specs.Tree.{Tree};
