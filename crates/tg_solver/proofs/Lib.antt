@@ -1,0 +1,10 @@
+pub mod NumberLaws
+pub mod HoldLaws
+pub mod FindLaws
+pub mod StageLaws
+pub mod WalkLaws
+pub mod PlanLaws
+pub mod DrawLaws
+pub mod DataLaws
+pub mod DataFit
+pub mod KnownCandidates

@@ -1,0 +1,5 @@
+pub mod Numbers
+pub mod Draws
+pub mod Candidates
+pub mod Walk
+pub mod Laws
