@@ -226,6 +226,7 @@ number_at (c ∷ bs) (suc k) b e =
         → place_of (level (length bs - k)) (option_map_or name o (level (suc (length bs))) ∷ seen bs) ≡ option_map suc (place_of (level (length bs - k)) (seen bs))
     go None f = ap (λ t. if t then Some 0 else option_map suc (place_of (level (length bs - k)) (seen bs))) f
     go (Some x) f = refl
+
     up : (o : Option Name) → option_map suc (option_map_or (λ x. None) o (Some k)) ≡ option_map_or (λ x. None) o (Some (suc k))
     up None = refl
     up (Some x) = refl

@@ -81,7 +81,7 @@ free_names : (a b c : Words) (x : Name) (params : List Name) (cs : List RawConst
     ≡ option_map (λ ks. (let m : Datatype = record { name = x; parameters = length params; constructors = ks } in m)) (each_meant (constructor_meant params c.types) cs)
 free_names a b c x params cs free h e =
     (λ i. if free i || (ap (λ l. are_taken l (names_in cs)) (sym (same_values_in a b x h)) ∙ e.0) i then None
-        else option_map (λ ks. (let m : Datatype = record { name = x; parameters = length params; constructors = ks } in m)) (each_meant (constructor_meant params (a.types ++ x ∷ [])) cs))
+    else option_map (λ ks. (let m : Datatype = record { name = x; parameters = length params; constructors = ks } in m)) (each_meant (constructor_meant params (a.types ++ x ∷ [])) cs))
     ∙ ap (λ l. option_map (λ ks. (let m : Datatype = record { name = x; parameters = length params; constructors = ks } in m)) (each_meant (constructor_meant params l) cs))
     (sym (e.1.types ∙ h.types))
 
@@ -129,9 +129,10 @@ meant_names types values x params cs m e = go (is_taken x types || are_taken val
     go true o q f = cc f
     go false None q f = cc f
     go false (Some ks) q f =
-        let s : (let k : Datatype = record { name = x; parameters = length params; constructors = ks } in k) ≡ m = same_Some _ m f in
-        (ap (λ (k : Datatype). k.name) (sym s),
-            ap (λ (k : Datatype). map (λ (c : Constructor). c.name) k.constructors) (sym s) ∙ names_of_meant params (types ++ x ∷ []) cs ks q)
+        let s : (let k : Datatype = record { name = x; parameters = length params; constructors = ks } in k) ≡ m = same_Some _ m f in (
+          ap (λ (k : Datatype). k.name) (sym s),
+          ap (λ (k : Datatype). map (λ (c : Constructor). c.name) k.constructors) (sym s) ∙ names_of_meant params (types ++ x ∷ []) cs ks q,
+        )
 
 -- the declaration means this datatype
 pub record MeansDatatype (D : Declared) (w : Words) (x : Name) (params : List Name) (cs : List RawConstructor) (def : DataDef) : Type 0 where
@@ -177,7 +178,7 @@ module _ (D : Declared) (w : Words) (x : Name) (params : List Name) (cs : List R
         is = is ∙ ap (λ o. option_map_or (with_datatype D) o D) same;
         words = subst (AreWordsOf words) (sym is)
             (with_datatype_named w names.between words D (datatype def) (names_in cs) h.words
-                (subst (HaveType w names.between) (sym n.0) names.type_name) names.constructors (sym n.1));
+            (subst (HaveType w names.between) (sym n.0) names.type_name) names.constructors (sym n.1));
       }
 
   pub name_needed : AreNames (x ∷ names_in cs) → IsName def.name

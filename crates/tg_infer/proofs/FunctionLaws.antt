@@ -60,6 +60,7 @@ pub all_small : (es : List RawEquation) → AreSmallSoFar es [] → (true ≡ tr
 all_small es h = ((λ e. h.to tt), λ s. refl)
 
 pub ruleset sizes = (begin_sizes)
+
 pub ruleset meaning = (begin_sizes)
 
 -- ---- what is wrong first
@@ -92,9 +93,10 @@ named_as D x r ts es m e = go (is_taken x (names_of_values D)) refl (types_meant
     name_of : Name → Option model.Meant → Name
     name_of y None = y
     name_of y (Some k) = k.signature.name
+
     go : (b : Bool) → is_taken x (names_of_values D) ≡ b → (o : Option (List Ty × Ty)) (q : Option (List Equation))
         → (if b then None else option_and_then (λ f. option_map (λ ks. (let k : model.Meant = record { signature = f; equations = ks } in k)) q)
-            (option_map (signature_of x (length (type_variables ts))) o)) ≡ Some m
+        (option_map (signature_of x (length (type_variables ts))) o)) ≡ Some m
         → (m.signature.name ≡ x) × (is_taken x (names_of_values D) ≡ false)
     go true t o q f = cc f
     go false t None q f = cc f
@@ -102,7 +104,7 @@ named_as D x r ts es m e = go (is_taken x (names_of_values D)) refl (types_meant
     go false t (Some p) (Some ks) f = (ap (name_of x) (sym f), t)
 
 module _ (D : Declared) (r : Bool) (x : Name) (ts : List RawType) (es : List RawEquation) (m : model.Meant) (small : SmallSides es)
-  (is : Some m ≡ function_meant D x r ts es) where
+    (is : Some m ≡ function_meant D x r ts es) where
   pub typing_first : (k : Kind) → IsTypingFault D r m (Some k) → First (checks_of D (raw_function r x ts es)) (kind k)
   typing_first k h = first_of D x ts es r (kind k) (subst (λ o. First (function_checks D r es o) (kind k)) is (go k h))
     where

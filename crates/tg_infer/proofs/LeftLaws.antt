@@ -62,7 +62,7 @@ next_name first xs old now new next i x at h e =
       adding =
           subst (λ m. Adding (reverse (numbered_from first xs) ++ old) (numbered_from m (drop (i + 1) xs)) new) s
           (one_added (reverse (numbered_from first xs) ++ old) (numbered_from (suc next) (drop (i + 1) xs)) now new x next
-              (subst (λ l. Adding (reverse (numbered_from first xs) ++ old) (numbered_from next l) now) d h.adding) e);
+          (subst (λ l. Adding (reverse (numbered_from first xs) ++ old) (numbered_from next l) now) d h.adding) e);
       count = (let l = ap length d in let c = h.count in omega (arith, l, c));
     }
 
@@ -88,7 +88,7 @@ begin_left ps inner e = record {
   adding =
       subst (λ n. Adding (left_variables (patterns ps)) (left_from 1 n (patterns ps)) []) (let s : suc (count_variables (patterns ps)) ≡ inner = omega (arith, e) in s)
       (subst (λ l. Adding l (left_from 1 (suc (count_variables (patterns ps))) (patterns ps)) []) (whole (left_variables (patterns ps)))
-          (none_added (left_from 1 (suc (count_variables (patterns ps))) (patterns ps)) []));
+      (none_added (left_from 1 (suc (count_variables (patterns ps))) (patterns ps)) []));
 }
   where
     whole : (ls : Variables) → ls ++ [] ≡ ls
@@ -104,7 +104,7 @@ left_variable ps now new next inner i x at h e = record {
   adding =
       subst (λ n. Adding (left_variables (patterns ps)) (left_from n inner (patterns (drop (i + 1) ps))) new) (let s : suc next ≡ next + 1 = omega arith in s)
       (one_added (left_variables (patterns ps)) (left_from (suc next) inner (patterns (drop (i + 1) ps))) now new x next
-          (subst (λ l. Adding (left_variables (patterns ps)) (left_from next inner (patterns l)) now) (rest_at ps i (Variable x) at) h.adding) e);
+      (subst (λ l. Adding (left_variables (patterns ps)) (left_from next inner (patterns l)) now) (rest_at ps i (Variable x) at) h.adding) e);
 }
 
 pub left_matched : (ps : List Pattern) (now new : Variables) (next inner after i : ℕ) (hd : Head) (xs : List (List ℕ)) → slice_get ps i ≡ Some (Matched hd xs)
@@ -114,10 +114,10 @@ left_matched ps now new next inner after i hd xs at h e f = record {
   adding =
       subst (λ n. Adding (left_variables (patterns ps)) (left_from next n (patterns (drop (i + 1) ps))) new) (sym f)
       (several_added (left_variables (patterns ps)) inner xs (left_from next (inner + length xs) (patterns (drop (i + 1) ps))) now new
-          (subst (λ l. Adding (left_variables (patterns ps)) l now)
-              (ap (λ l. left_from next inner (patterns l)) (rest_at ps i (Matched hd xs) at))
-              h.adding)
-          e);
+      (subst (λ l. Adding (left_variables (patterns ps)) l now)
+      (ap (λ l. left_from next inner (patterns l)) (rest_at ps i (Matched hd xs) at))
+      h.adding)
+      e);
 }
 
 pub end_left : (ps : List Pattern) (now : Variables) (next inner : ℕ) → IsLeft ps now [] next inner → AreSameVariables now (left_variables (patterns ps))

@@ -16,6 +16,8 @@ pub mod DatatypeLaws
 pub mod ProgramLaws
 pub mod TypingLaws
 pub mod FunctionLaws
+pub mod SpecificationLaws
+pub mod TheoryLaws
 pub mod ScopeLaws
 pub mod UseLaws
 pub mod EnteringLaws

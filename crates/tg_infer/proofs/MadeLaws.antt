@@ -57,6 +57,7 @@ taken_declared D own d x e = go own
   where
     is : numbered (map (λ (y : Datatype). y.parameters) D.datatypes) d ≡ Some x.params
     is = numbered_map (λ (y : Datatype). y.parameters) D.datatypes d ∙ ap (option_map (λ (y : Datatype). y.parameters)) (sym e)
+
     go : (own : Option ℕ) → Some x.params ≡ numbered (counts D own) d
     go None = sym is
     go (Some n) = sym (front (map (λ (y : Datatype). y.parameters) D.datatypes) n x.params d is)
@@ -80,6 +81,7 @@ none_taken D (Some n) d e h =
     sym (past (map (λ (y : Datatype). y.parameters) D.datatypes) n d (none_declared D d e) (λ p. h (let l = length_of D.datatypes in omega (arith, p, l))))
 
 pub ruleset taking = (taken_declared, taken_own, none_taken)
+
 as_many : (ts : List Ty) → length (elements (model_types ts)) ≡ length ts
 as_many [] = refl
 as_many (t ∷ ts) = ap suc (as_many ts)
@@ -189,9 +191,11 @@ module _ (D : Declared) (m : Datatype) where
       → AreConstructorsMade (theory [] (with_datatype D m)) m.parameters (map constructor cs)
   constructors_made [] e = tt
   constructors_made (c ∷ cs) e =
-      let p = both (are_made (counts D (Some m.parameters)) m.parameters (model_types c.args)) (ConstructorsMade D m.parameters cs) e in
-      (all_to (theory [] (with_datatype D m)) m.parameters (model_types c.args)
-          (subst (λ l. are_made l m.parameters (model_types c.args) ≡ true) (more_counts D m) p.0), constructors_made cs p.1)
+      let p = both (are_made (counts D (Some m.parameters)) m.parameters (model_types c.args)) (ConstructorsMade D m.parameters cs) e in (
+        all_to (theory [] (with_datatype D m)) m.parameters (model_types c.args)
+            (subst (λ l. are_made l m.parameters (model_types c.args) ≡ true) (more_counts D m) p.0),
+        constructors_made cs p.1,
+      )
 
   constructors_back : (cs : List ConDef) → AreConstructorsMade (theory [] (with_datatype D m)) m.parameters (map constructor cs)
       → ConstructorsMade D m.parameters cs ≡ true
@@ -199,7 +203,7 @@ module _ (D : Declared) (m : Datatype) where
   constructors_back (c ∷ cs) h =
       joined (are_made (counts D (Some m.parameters)) m.parameters (model_types c.args)) (ConstructorsMade D m.parameters cs)
       (subst (λ l. are_made l m.parameters (model_types c.args) ≡ true) (sym (more_counts D m))
-          (all_back (theory [] (with_datatype D m)) m.parameters (model_types c.args) h.0))
+      (all_back (theory [] (with_datatype D m)) m.parameters (model_types c.args) h.0))
       (constructors_back cs h.1)
 
 pub datatype_tells : (D : Declared) (def : DataDef) → (ConstructorsMade D def.params def.cons ≡ true) ↔ IsDatatypeMeant D (datatype def)

@@ -49,6 +49,7 @@ fresh x y (z ∷ zs) e = go (bytes_eq x z) refl (λ h. fresh x y zs h)
     none : (o : Option ℕ) → option_map suc o ≡ None → o ≡ None
     none None k = refl
     none (Some n) k = cc k
+
     turn : (c d : Bool) → bytes_eq y z ≡ c → bytes_eq x y ≡ d → bytes_eq x z ≡ false
         → (if c then Some 1 else option_map suc (if d then Some (length zs + 1) else number_of y zs))
         ≡ (if d then Some (suc (length zs) + 1) else (if c then Some 1 else option_map suc (number_of y zs)))
@@ -56,6 +57,7 @@ fresh x y (z ∷ zs) e = go (bytes_eq x z) refl (λ h. fresh x y zs h)
     turn true false g h f = refl
     turn false true g h f = ap Some (let s : suc (length zs + 1) ≡ suc (length zs) + 1 = omega arith in s)
     turn false false g h f = refl
+
     go : (b : Bool) → bytes_eq x z ≡ b
         → (number_of x zs ≡ None → number_of y (zs ++ x ∷ []) ≡ (if bytes_eq x y then Some (length zs + 1) else number_of y zs))
         → (if bytes_eq y z then Some 1 else option_map suc (number_of y (zs ++ x ∷ [])))

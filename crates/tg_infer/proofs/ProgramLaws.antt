@@ -58,6 +58,7 @@ params_of types values x ts s e = go (is_taken x values) (types_meant types ts) 
     first : ℕ → Option (ℕ × (List Ty × Ty)) → ℕ
     first n None = n
     first n (Some p) = p.0
+
     go : (b : Bool) (o : Option (List Ty × Ty)) → (if b then None else option_map (λ p. (length (type_variables ts), p)) o) ≡ Some s → s.0 ≡ length (type_variables ts)
     go true o f = cc f
     go false None f = cc f

@@ -38,6 +38,11 @@ kept_same b h = record { is = refl; right = h }
 pub kept_on : (a b c : Binders) → AreKept a b → AreKept b c → AreKept a c
 kept_on a b c h k = record { is = k.is ∙ h.is; right = k.right }
 
+-- what is found is what is meant
+pub found_is : {A : Type 0} (a b : Binders) (o meant : Option A) → Finds a b o meant → o ≡ meant
+found_is a b None meant h = h
+found_is a b (Some r) meant h = h.0
+
 -- ---- leaves
 
 pub num_found : (S : Scope) (b : Binders) (n : ℕ) → AreRight b
@@ -293,14 +298,15 @@ pub let_found : (S : Scope) (a b c d f : Binders) (x : Binder) (ts : List RawTer
     → p ≡ get_or ts 0 p → q ≡ get_or ts 1 q → Finds a b (Some (resolved t)) (resolve S (binders a) (raw_term p)) → n ≡ length (binders b) → Enters S b c x true
     → Finds c d (Some (resolved body)) (resolve S (binders c) (raw_term q)) → AreLeft d f n
     → Finds a f (Some (resolved (resolveds.Let t body))) (resolve S (binders a) (bound_in x (map raw_term ts)))
-let_found S a b c d f x ts p q t body n two at_p at_q ht before hx hb hl =
-    (ap Some (resolved-Let t body)
-        ∙ ap (λ o. option_map (model.bind (resolved t)) o) (hb.0 ∙ ap (λ l. resolve S l (raw_term q)) (hx.1.is ∙ ap (λ l. x ∷ l) ht.1.is))
-        ∙ ap (option_and_then (λ u. option_map (model.bind u) (resolve S (x ∷ binders a) (raw_term q)))) ht.0
-        ∙ ap (λ m. if m then option_and_then (λ u. option_map (model.bind u) (resolve S (x ∷ binders a) (raw_term q))) (resolve S (binders a) (raw_term p)) else None)
-        (sym (ap (λ l. may_bind S l x) (sym ht.1.is) ∙ hx.0))
-        ∙ sym (let_meant S (binders a) x ts p q (two_items ts p q two at_p at_q)),
-        kept_on a b f ht.1 (gone b c d f (x ∷ []) n hx.1.is hb.1 hl before))
+let_found S a b c d f x ts p q t body n two at_p at_q ht before hx hb hl = (
+  ap Some (resolved-Let t body)
+      ∙ ap (λ o. option_map (model.bind (resolved t)) o) (hb.0 ∙ ap (λ l. resolve S l (raw_term q)) (hx.1.is ∙ ap (λ l. x ∷ l) ht.1.is))
+      ∙ ap (option_and_then (λ u. option_map (model.bind u) (resolve S (x ∷ binders a) (raw_term q)))) ht.0
+      ∙ ap (λ m. if m then option_and_then (λ u. option_map (model.bind u) (resolve S (x ∷ binders a) (raw_term q))) (resolve S (binders a) (raw_term p)) else None)
+      (sym (ap (λ l. may_bind S l x) (sym ht.1.is) ∙ hx.0))
+      ∙ sym (let_meant S (binders a) x ts p q (two_items ts p q two at_p at_q)),
+  kept_on a b f ht.1 (gone b c d f (x ∷ []) n hx.1.is hb.1 hl before),
+)
 
 pub let_no_term : (S : Scope) (a : Binders) (x : Binder) (ts : List RawTerm) (p : RawTerm) → length ts ≡ 2 → p ≡ get_or ts 0 p
     → None ≡ resolve S (binders a) (raw_term p) → None ≡ resolve S (binders a) (bound_in x (map raw_term ts))
@@ -311,6 +317,7 @@ let_no_term S a x ts p two at_p h =
     go : (m : Bool) → (let n : Option model.Resolved = None in n) ≡ (if m then None else None)
     go true = refl
     go false = refl
+
     second : (ts : List RawTerm) → length ts ≡ 2 → get_or ts 1 p ≡ get_or ts 1 (get_or ts 1 p)
     second [] e = cc e
     second (t ∷ []) e = absurd (omega (arith, e))
@@ -364,12 +371,13 @@ pub case_found : (S : Scope) (a b c : Binders) (ts : List RawTerm) (bs : List Ra
     → p ≡ get_or ts 0 p → Finds a b (Some (resolved t)) (resolve S (binders a) (raw_term p))
     → Finds b c (Some (branches us)) (resolve_branches S (binders b) (raw_branches bs)) → d ≡ datatype_of_first S.declared (branches us)
     → Finds a c (Some (resolved (resolveds.Case d t us))) (resolve S (binders a) (case_of (raw_branches bs) (map raw_term ts)))
-case_found S a b c ts bs p t us d one at_p ht hb hd =
-    (ap Some (resolved-Case d t us ∙ ap (λ n. model.case n (resolved t) (branches us)) hd)
-        ∙ ap (option_map (λ vs. model.case (datatype_of_first S.declared vs) (resolved t) vs)) (hb.0 ∙ ap (λ l. resolve_branches S l (raw_branches bs)) ht.1.is)
-        ∙ ap (option_and_then (λ u. option_map (λ vs. model.case (datatype_of_first S.declared vs) u vs) (resolve_branches S (binders a) (raw_branches bs)))) ht.0
-        ∙ sym (case_meant S (binders a) ts bs p (one_item ts p one at_p)),
-        kept_on a b c ht.1 hb.1)
+case_found S a b c ts bs p t us d one at_p ht hb hd = (
+  ap Some (resolved-Case d t us ∙ ap (λ n. model.case n (resolved t) (branches us)) hd)
+      ∙ ap (option_map (λ vs. model.case (datatype_of_first S.declared vs) (resolved t) vs)) (hb.0 ∙ ap (λ l. resolve_branches S l (raw_branches bs)) ht.1.is)
+      ∙ ap (option_and_then (λ u. option_map (λ vs. model.case (datatype_of_first S.declared vs) u vs) (resolve_branches S (binders a) (raw_branches bs)))) ht.0
+      ∙ sym (case_meant S (binders a) ts bs p (one_item ts p one at_p)),
+  kept_on a b c ht.1 hb.1,
+)
 
 pub case_no_term : (S : Scope) (a : Binders) (ts : List RawTerm) (bs : List RawBranch) (p : RawTerm) → length ts ≡ 1 → p ≡ get_or ts 0 p
     → None ≡ resolve S (binders a) (raw_term p) → None ≡ resolve S (binders a) (case_of (raw_branches bs) (map raw_term ts))
@@ -403,25 +411,26 @@ case_unread S a ts bs h = go ts h ∙ sym (ap (resolve S (binders a)) (raw_term-
 branch_parts : (S : Scope) (locs : Locs) (b : RawBranch)
     → branch_meant S locs (seen b)
     ≡ (if may_bind_all S locs (map binder b.vars)
-        then option_and_then
-        (λ h. option_map (λ u. (let s : typing.Seen = record { head = h; names = map name_of (map binder b.vars); body = u } in s)) (resolve S (reverse (map binder b.vars) ++ locs) (raw_term b.body)))
-        (head_meant S.declared (head b.con))
-        else None)
+    then option_and_then
+    (λ h. option_map (λ u. (let s : typing.Seen = record { head = h; names = map name_of (map binder b.vars); body = u } in s)) (resolve S (reverse (map binder b.vars) ++ locs) (raw_term b.body)))
+    (head_meant S.declared (head b.con))
+    else None)
 branch_parts S locs b = ap (branch_meant S locs) (seen-RawBranch b)
 
 pub branch_found : (S : Scope) (a b c d : Binders) (r : RawBranch) (h : Head) (names : List (List ℕ)) (body : Resolved) (n : ℕ) → Some (typing.head h) ≡ head_meant S.declared (head r.con)
     → n ≡ length (binders a) → EntersAll S a b (map binder r.vars) true → Finds b c (Some (resolved body)) (resolve S (binders b) (raw_term r.body)) → AreLeft c d n
     → names ≡ map name_of (map binder r.vars)
     → Finds a d (Some (typing.seen (record { head = h; names = names; body = body }))) (branch_meant S (binders a) (seen r))
-branch_found S a b c d r h names body n hh before hx hb hl hn =
-    (ap Some (seen-Branch (record { head = h; names = names; body = body })
-        ∙ ap (λ l. (let s : typing.Seen = record { head = typing.head h; names = l; body = resolved body } in s)) hn)
-        ∙ ap (option_map (λ u. (let s : typing.Seen = record { head = typing.head h; names = map name_of (map binder r.vars); body = u } in s))) (hb.0 ∙ ap (λ l. resolve S l (raw_term r.body)) hx.1.is)
-        ∙ ap (option_and_then (λ h. option_map (λ u. (let s : typing.Seen = record { head = h; names = map name_of (map binder r.vars); body = u } in s)) (resolve S (reverse (map binder r.vars) ++ binders a) (raw_term r.body)))) hh
-        ∙ ap (λ m. if m then option_and_then (λ h. option_map (λ u. (let s : typing.Seen = record { head = h; names = map name_of (map binder r.vars); body = u } in s)) (resolve S (reverse (map binder r.vars) ++ binders a) (raw_term r.body))) (head_meant S.declared (head r.con)) else None)
-        (sym hx.0)
-        ∙ sym (branch_parts S (binders a) r),
-        gone a b c d (reverse (map binder r.vars)) n hx.1.is hb.1 hl before)
+branch_found S a b c d r h names body n hh before hx hb hl hn = (
+  ap Some (seen-Branch (record { head = h; names = names; body = body })
+      ∙ ap (λ l. (let s : typing.Seen = record { head = typing.head h; names = l; body = resolved body } in s)) hn)
+      ∙ ap (option_map (λ u. (let s : typing.Seen = record { head = typing.head h; names = map name_of (map binder r.vars); body = u } in s))) (hb.0 ∙ ap (λ l. resolve S l (raw_term r.body)) hx.1.is)
+      ∙ ap (option_and_then (λ h. option_map (λ u. (let s : typing.Seen = record { head = h; names = map name_of (map binder r.vars); body = u } in s)) (resolve S (reverse (map binder r.vars) ++ binders a) (raw_term r.body)))) hh
+      ∙ ap (λ m. if m then option_and_then (λ h. option_map (λ u. (let s : typing.Seen = record { head = h; names = map name_of (map binder r.vars); body = u } in s)) (resolve S (reverse (map binder r.vars) ++ binders a) (raw_term r.body))) (head_meant S.declared (head r.con)) else None)
+      (sym hx.0)
+      ∙ sym (branch_parts S (binders a) r),
+  gone a b c d (reverse (map binder r.vars)) n hx.1.is hb.1 hl before,
+)
 
 pub branch_no_head : (S : Scope) (a : Binders) (r : RawBranch) → None ≡ head_meant S.declared (head r.con) → None ≡ branch_meant S (binders a) (seen r)
 branch_no_head S a r e =

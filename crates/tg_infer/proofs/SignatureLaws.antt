@@ -119,4 +119,5 @@ variables_next all now new ts i t at h e =
     ∙ sym (ap (λ l. all_variables_in now (raw_types l)) (drop_at ts i t at ∙ ap (λ n. t ∷ drop n ts) (let s : suc i ≡ i + 1 = omega arith in s))) ∙ h
 
 pub ruleset collecting = (raw_type-Nat, raw_type-Bool, raw_type-Var, raw_type-Word, known_variable, new_variable)
+
 pub ruleset variables = (type_variables_of)

@@ -22,7 +22,7 @@ pub record AreCounted {A : Type 0} (Is : A → Typing → Type 0) (es rest : Lis
 pub begin_count : {A : Type 0} (Is : A → Typing → Type 0) (es : List A) → AreCounted Is es es false
 begin_count Is es = record { typed = λ h. h; left = λ h. h; one = λ e h. h; two = λ e. cc e; later = λ h. h }
 
-has_typing : (P : Typing → Type 0) → HasOneTyping P → HasTyping P
+pub has_typing : (P : Typing → Type 0) → HasOneTyping P → HasTyping P
 has_typing P h = record { typing = h.typing; is = h.is }
 
 has_a_typing : (P : Typing → Type 0) → HasTwoTypings P → HasTyping P
@@ -62,4 +62,5 @@ pub rest_at : {A X : Type 0} (raw : A → X) (ts : List A) (i : ℕ) (t : A) →
 rest_at raw ts i t e = ap (map raw) (drop_at ts i t e ∙ ap (λ n. t ∷ drop n ts) (let s : suc i ≡ i + 1 = omega arith in s))
 
 pub ruleset counting = (begin_count)
+
 pub ruleset faults = (begin_count)

@@ -10,6 +10,8 @@ pub mod Signatures
 pub mod Named
 pub mod Datatypes
 pub mod Functions
+pub mod Specifications
 pub mod Refused
+pub mod Theories
 pub mod Causes
 pub mod Made

@@ -1,5 +1,6 @@
 -- Where a term stands, as the definitions have it.
-use Rattle.std.specs.Prelude.{ℕ, ◌≡◌, List, option_map}
+use Rattle.std.specs.Prelude.{ℕ, ◌≡◌, Bool, false, List, [], option_map}
+use Rattle.tg_accept.specs.Declared.{Declared}
 use Rattle.tg_accept.specs.Meaning as meaning
 use Rattle.tg_infer.specs.declared.scopes.Scope.{Scope}
 use Rattle.tg_infer.specs.Words.{program_names}
@@ -16,3 +17,7 @@ scope_of s = record {
 -- each name is the same variable in both
 pub record AreSameVariables (vs ws : List (List ℕ × ℕ)) : Type 0 where
   pub is : (x : List ℕ) → meaning.variable_named x vs ≡ meaning.variable_named x ws
+
+-- where no function is declared
+abbrev pub outside : Declared → List (List ℕ × ℕ) → Bool → meaning.Scope
+outside D vs in_certificate = record { declared = D; own = []; is_recursive = false; variables = vs; in_certificate = in_certificate }

@@ -47,7 +47,7 @@ fn count_variables(ps: &[Pattern]) -> Result<u32, AllocError>
 
 /// Adds variables with the numbers from `first` on, and answers the next number.
 #[tactic(auto, using(crate::proofs::LeftLaws::lefts))]
-fn add_numbered(
+pub(crate) fn add_numbered(
     variables: &mut Variables,
     first: u32,
     xs: &[Name],

@@ -3,8 +3,10 @@
 
 mod binders;
 mod datatypes;
+mod elaborating;
 mod entering;
 mod equations;
+mod errors;
 mod functions;
 mod lefts;
 mod made;
@@ -17,15 +19,18 @@ mod resolving;
 mod scopes;
 mod signatures;
 mod sizes;
+mod specifications;
 mod types;
 mod typings;
 mod uses;
 mod variables;
 mod words;
 
+pub use elaborating::elaborate;
+pub use errors::TheoryErr;
 pub use numbers::Numbers;
+pub use refusals::Kind;
 pub use scopes::Scope;
 pub use sizes::is_larger;
-
 pub use variables::Variables;
 pub use words::{Word, Words};

@@ -32,11 +32,7 @@ pub(crate) fn is_signature_made(declared: &Declarations, signature: &Signature) 
         && are_made(declared, None, params, signature.args.as_slice())
 }
 
-fn are_constructors_made(
-    declared: &Declarations,
-    params: u32,
-    cons: &[ConDef],
-) -> bool
+fn are_constructors_made(declared: &Declarations, params: u32, cons: &[ConDef]) -> bool
     ensures { result ≡ list_all (λ ts. are_made (counts declared.now (Some params)) params (types ts)) (map (λ con. con.args) cons.now) }
 {
     for con in cons {

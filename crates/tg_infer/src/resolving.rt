@@ -44,9 +44,7 @@ pub(crate) fn resolve(
             Ok(Some(Resolved::Free(*n)))
         }
         RawTerm::Bound(n) => match outer.place_of_number(*n) {
-            Some(k) => Ok(Some(Resolved::Bound(
-                u32::try_from(k).map_err(|_| AllocError)?,
-            ))),
+            Some(k) => Ok(Some(Resolved::Bound(u32::try_from(k).map_err(|_| AllocError)?))),
             None => Ok(None),
         },
         RawTerm::Op(o, ts) => match resolve_all(scope, outer, ts.as_slice())? {

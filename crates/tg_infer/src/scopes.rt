@@ -3,7 +3,7 @@ ghost use Rattle.std.specs.Prelude.{◌≡◌, option_map};
 ghost use Rattle.tg_accept.specs.Faults.{is_taken};
 ghost use Rattle.tg_accept.specs.Meaning.{may_bind, head_meant, taken_names};
 ghost use Rattle.tg_infer.specs.Binders.{binders};
-ghost use Rattle.tg_infer.specs.Scopes.{scope_of};
+ghost use Rattle.tg_infer.specs.Scopes.{scope_of, outside};
 ghost use Rattle.tg_infer.specs.View.{binder, head};
 ghost use Rattle.tg_infer.specs.Words.{AreWordsOf};
 ghost use Rattle.tg_typing.specs.View as typing;
@@ -37,6 +37,29 @@ pub struct Scope<'a> {
 }
 
 impl<'a> Scope<'a> {
+    /// Outside of the equations of functions.
+    pub(crate) fn outside(
+        alloc: Global,
+        declared: &'a Declarations,
+        words: &'a Words,
+        variables: &'a Variables,
+        in_certificate: bool,
+    ) -> Scope<'a>
+        ensures is { scope_of result ≡ outside declared.now variables.now in_certificate }
+        ensures declared { result.declared.now ≡ declared.now }
+        ensures words { result.words.now ≡ words.now }
+    {
+        Scope {
+            alloc,
+            declared,
+            words,
+            own: None,
+            is_recursive: false,
+            variables,
+            in_certificate,
+        }
+    }
+
     // Whether the function that is being declared has this name.
     #[tactic(auto, using(crate::proofs::ScopeLaws::scopes))]
     pub(crate) fn is_own(&self, x: &Name) -> bool
@@ -64,9 +87,7 @@ impl<'a> Scope<'a> {
         ensures { result ≡ may_bind (scope_of self.now) (binders outer.now) (binder x.now) }
     {
         match x {
-            Binder::Named(x) => {
-                !self.in_certificate && !self.is_taken(x)
-            }
+            Binder::Named(x) => { !self.in_certificate && !self.is_taken(x) }
             Binder::Level(n) => self.in_certificate && *n == outer.len() as u64 + 1,
         }
     }

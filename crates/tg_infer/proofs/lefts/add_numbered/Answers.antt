@@ -10,4 +10,4 @@ loop-x-preserved c =
     let n : c.in_ok-next.next ≡ c.loop-x.next + 1 = search rules in
     subst (IsAdding c.args.first c.args.xs.now c.args.variables.now c.add.new.self (drop (c.loop-x.x-index + 1) c.args.xs.now)) (sym n)
     (next_name c.args.first c.args.xs.now c.args.variables.now c.loop-x.variables c.add.new.self c.loop-x.next c.loop-x.x-index c.x-item.result at
-        c.loop-x.invariant c.in_ok-add.ensures)
+    c.loop-x.invariant c.in_ok-add.ensures)

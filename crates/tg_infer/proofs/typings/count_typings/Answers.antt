@@ -21,12 +21,12 @@ loop-e-preserved c =
     let rest = equations (drop (c.loop-e.e-index + 1) c.args.es.now) in
     let here : AreCounted Is es (e ∷ rest) c.loop-e.several = subst (λ l. AreCounted Is es l c.loop-e.several) (rest_at equation c.args.es.now c.loop-e.e-index c.e-item.result at) c.loop-e.invariant in
     elim c.match-branch-2.branch [
-      in-One w ↦
-        let one : HasOneTyping (Is e) = search rules in
-        let same : c.match-branch-2.several ≡ c.loop-e.several = search rules in
-        subst (AreCounted Is es rest) (sym same) (one_more Is es rest e c.loop-e.several here one)
-    | in-Several w ↦
-        let two : HasTwoTypings (Is e) = search rules in
-        let same : c.match-branch-2.several ≡ true = search rules in
-        subst (AreCounted Is es rest) (sym same) (two_more Is es rest e c.loop-e.several here two)
+      | in-One w ↦
+          let one : HasOneTyping (Is e) = search rules in
+          let same : c.match-branch-2.several ≡ c.loop-e.several = search rules in
+          subst (AreCounted Is es rest) (sym same) (one_more Is es rest e c.loop-e.several here one)
+      | in-Several w ↦
+          let two : HasTwoTypings (Is e) = search rules in
+          let same : c.match-branch-2.several ≡ true = search rules in
+          subst (AreCounted Is es rest) (sym same) (two_more Is es rest e c.loop-e.several here two)
     ]
