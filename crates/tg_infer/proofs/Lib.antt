@@ -18,6 +18,7 @@ pub mod TypingLaws
 pub mod FunctionLaws
 pub mod SpecificationLaws
 pub mod TheoryLaws
+pub mod TextNames
 pub mod ScopeLaws
 pub mod UseLaws
 pub mod EnteringLaws

@@ -13,5 +13,6 @@ pub mod Functions
 pub mod Specifications
 pub mod Refused
 pub mod Theories
+pub mod TextNames
 pub mod Causes
 pub mod Made

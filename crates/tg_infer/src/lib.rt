@@ -34,3 +34,10 @@ pub use scopes::Scope;
 pub use sizes::is_larger;
 pub use variables::Variables;
 pub use words::{Word, Words};
+
+ghost use Rattle.tg_infer.specs.TextNames.{TextsAreNamed};
+
+/// The names in a text are words that aren't reserved, which `elaborate` asks for.
+pub fn texts_are_named()
+    ensures { TextsAreNamed }
+{}
