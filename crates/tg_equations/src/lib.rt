@@ -12,6 +12,8 @@ mod matching;
 mod names;
 mod places;
 mod shapes;
+#[cfg(test)]
+mod tests;
 mod typings;
 
 pub use bodies::whole_function;
