@@ -14,6 +14,7 @@ use Rattle.tg_theory.specs.Causes.{IsCause, missing_fault}
 use Rattle.tg_theory.specs.declared.errors.BuildErr.{BuildErr}
 use Rattle.tg_theory.specs.declared.errors.BuildErr.TheVariants as builds
 use Rattle.tg_theory.specs.Names.{AreNames}
+use Rattle.tg_infer.specs.declared.refusals.Kind.TheVariants as kinds
 use Rattle.tg_infer.specs.declared.refusals.Refusal.{Refusal}
 use Rattle.tg_infer.specs.declared.refusals.Refusal.TheVariants as refusals
 use Rattle.tg_infer.specs.declared.words.Words.{Words}
@@ -43,7 +44,12 @@ one_declared all rest x old new n words named h d = record {
 
 pub one_refused : (all rest : List RawDeclaration) (x : RawDeclaration) (D : Declared) (n : ℕ) (words : Words) (r : Refusal) → Reaches all (x ∷ rest) D n words
     → IsFirst (checks_of D x) r → IsRefusal all (refused_at r n)
-one_refused all rest x D n words (refusals.Fault k) h f = h.refused n _ (inl (f, refl))
+one_refused all rest x D n words (refusals.Fault kinds.TermSize) h f = h.refused n _ (inl (f, refl))
+one_refused all rest x D n words (refusals.Fault kinds.Name) h f = h.refused n _ (inl (f, refl))
+one_refused all rest x D n words (refusals.Fault kinds.Typing) h f = h.refused n _ (inl (f, refl))
+one_refused all rest x D n words (refusals.Fault kinds.Ambiguous) h f = h.refused n _ (inl (f, refl))
+one_refused all rest x D n words (refusals.Fault kinds.Shape) h f = h.refused n _ (inl (f, refl))
+one_refused all rest x D n words (refusals.Fault kinds.Program) h f = h.refused n _ (inl (f, refl))
 one_refused all rest x D n words refusals.Memory h f = tt
 
 pub first_named : (all rest : List RawDeclaration) (x : RawDeclaration) (D : Declared) (n : ℕ) (words : Words) → Reaches all (x ∷ rest) D n words

@@ -13,7 +13,7 @@ use crate::datatypes::declare_datatype;
 use crate::errors::TheoryErr;
 use crate::functions::declare_function;
 use crate::programs::declare_program;
-use crate::refusals::{Kind, Refusal};
+use crate::refusals::Refusal;
 use crate::specifications::declare_specification;
 use crate::words::Words;
 use std::alloc::Global;
@@ -22,8 +22,8 @@ use tg_theory::{BuildErr, Builder, Theory};
 
 /// The theory that a text means, if it is accepted.
 ///
-/// `Fault` comes exactly where it isn't: at the first declaration that has a fault, for the first kind of fault
-/// that it has, and behind all declarations where the program or the specification is missing.
+/// An error comes exactly where it isn't: at the first declaration that has a fault, for the first kind of fault that
+/// it has, and behind all declarations where the program or the specification is missing; or where memory is wanting.
 #[tactic(auto, using(crate::proofs::TheoryLaws::elaborating))]
 pub fn elaborate(alloc: Global, raw: &RawTheory) -> Result<Theory, TheoryErr>
     requires name { IsName raw.now.name }
@@ -52,10 +52,7 @@ fn missing(error: BuildErr, decl: u64) -> TheoryErr
 {
     match error {
         BuildErr::Memory => TheoryErr::Memory,
-        BuildErr::Name { .. } | BuildErr::Shape | BuildErr::Program => TheoryErr::Fault {
-            kind: Kind::Program,
-            decl,
-        },
+        BuildErr::Name { .. } | BuildErr::Shape | BuildErr::Program => TheoryErr::Program { decl },
     }
 }
 

@@ -29,7 +29,6 @@ mod words;
 pub use elaborating::elaborate;
 pub use errors::TheoryErr;
 pub use numbers::Numbers;
-pub use refusals::Kind;
 pub use scopes::Scope;
 pub use sizes::is_larger;
 pub use variables::Variables;

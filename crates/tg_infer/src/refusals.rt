@@ -4,7 +4,7 @@ use tg_theory::BuildErr;
 /// What is wrong with a declaration, in the order in which it is looked for. Of a specification a missing
 /// program, and other variables than inputs, are found before its names.
 #[derive(Clone, Copy, Debug)]
-pub enum Kind {
+pub(crate) enum Kind {
     /// A term has too many nodes.
     TermSize,
     /// A name isn't declared before, or is declared already.
