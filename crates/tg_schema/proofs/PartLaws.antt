@@ -1,7 +1,7 @@
 -- What a term has at its root, by the numbers of operators.
-use Rattle.std.proofs.Common.{ℕ, ◌≡◌, ◌≢◌, Bool, true, false, List, [], ◌∷◌, Option, Some, None, refl, ap, sym, ◌∙◌, ◌↔◌, arith, length}
+use Rattle.std.proofs.Common.{ℕ, ◌≡◌, ◌≢◌, Bool, true, false, List, [], ◌∷◌, Some, None, refl, ap, sym, ◌∙◌, ◌↔◌, arith, length}
 use Rattle.std.specs.Prelude.{IsTrue, slice_get}
-use Rattle.tg_model.specs.Tree.{Tree, Trees, Operator, op, choice, none, more, one, trees, operator_discrete}
+use Rattle.tg_model.specs.Tree.{Tree, Trees, Operator, op, choice, none, more, trees, operator_discrete}
 use Rattle.tg_model.specs.Equality.{number_decided, same_tree}
 use Rattle.tg_model.proofs.Equalities.{told, decides_trees}
 use Rattle.tg_rows.specs.Parts.{only_if, same_operator, unary, binary, choice_of}

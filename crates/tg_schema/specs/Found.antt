@@ -3,8 +3,9 @@ use Rattle.std.specs.Prelude.{ℕ, true, false, not, ◌+◌, ◌-◌, ◌*◌, 
 use Rattle.tg_model.specs.Tree.{Tree, literal, truth, op, one, negation}
 use Rattle.tg_model.specs.Walk.{substituted, instantiated}
 use Rattle.tg_model.specs.Denotation.{quotient, remainder}
+use Rattle.tg_model.specs.Theory.{Theory}
 use Rattle.tg_rows.specs.Parts.{only_if}
-use Rattle.tg_rows.specs.Rows.{equation, equal_parts, itself, always, denied, small}
+use Rattle.tg_rows.specs.Rows.{equation, equal_parts, itself, always, denied, small, Opener, from_constructor, from_successor, from_literal}
 use Rattle.tg_schema.specs.declared.found.Piece.{Piece}
 use Rattle.tg_schema.specs.declared.found.Piece.TheVariants.{Part, Number}
 use Rattle.tg_schema.specs.declared.found.Arguments.{Arguments}
@@ -15,6 +16,9 @@ use Rattle.tg_schema.specs.declared.found.Other.{Other}
 use Rattle.tg_schema.specs.declared.found.Other.TheVariants.{Itself, Always, Denied}
 use Rattle.tg_schema.specs.declared.found.Calculation.{Calculation}
 use Rattle.tg_schema.specs.declared.found.Calculation.TheVariants.{Different, Less, LessEqual, Sum, Difference, Product, Quotient, Remainder}
+use Rattle.tg_schema.specs.declared.found.Writing.{Writing}
+use Rattle.tg_schema.specs.declared.found.Writing.TheVariants.{Constructor, Successor, Literal}
+use Rattle.tg_schema.specs.declared.found.Opened as declared
 
 abbrev pub piece : Piece → Tree
 piece (Part t) = t.now
@@ -50,3 +54,12 @@ calculated Difference = λ m n. small (m - n)
 calculated Product = λ m n. small (m * n)
 calculated Quotient = λ m n. small (quotient m n)
 calculated Remainder = λ m n. small (remainder m n)
+
+-- a term that is taken apart, and how this is done for each way of writing
+abbrev pub opened : declared.Opened → ℕ × List Tree
+opened o = (o.place, listed o.arguments)
+
+abbrev pub opener : Theory → Writing → Opener
+opener th Constructor = from_constructor th
+opener th Successor = from_successor
+opener th Literal = from_literal

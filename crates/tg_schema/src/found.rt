@@ -72,3 +72,23 @@ pub(crate) enum Calculation {
     /// The remainder, the first where the second is 0.
     Remainder,
 }
+
+/// How the constructor at the root of a term is written.
+#[derive(Clone, Copy, Debug)]
+pub(crate) enum Writing {
+    /// A constructor of a datatype at its arguments.
+    Constructor,
+    /// `Suc` at a term.
+    Successor,
+    /// A natural, which stands for 0, or for `Suc` at the natural before it.
+    Literal,
+}
+
+/// A term that is taken apart.
+#[derive(Clone, Copy, Debug)]
+pub(crate) struct Opened<'a> {
+    /// The place of its constructor in the datatype, from 0.
+    pub place: usize,
+    /// The constructor's arguments.
+    pub arguments: Arguments<'a>,
+}

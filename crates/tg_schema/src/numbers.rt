@@ -41,7 +41,11 @@ fn calculated<'a>(calculation: Calculation, m: u64, n: u64) -> Option<Found<'a>>
     ensures { option_map term_of result ≡ calculated calculation m n }
 {
     match calculation {
-        Calculation::Different => if m == n { None } else { Some(Found::Truth(false)) },
+        Calculation::Different => if m == n {
+            None
+        } else {
+            Some(Found::Truth(false))
+        },
         Calculation::Less => Some(Found::Truth(m < n)),
         Calculation::LessEqual => Some(Found::Truth(m <= n)),
         Calculation::Sum => natural(m.checked_add(n)?),

@@ -43,7 +43,11 @@ fn only(ts: &[Term]) -> Option<&Term>
 fn pair(ts: &[Term]) -> Option<(&Term, &Term)>
     ensures { (o : _) → option_map (λ p. (p.0.now, p.1.now)) result ≡ binary o (op o (trees ts.now)) }
 {
-    if ts.len() == 2 { Some((&ts[0], &ts[1])) } else { None }
+    if ts.len() == 2 {
+        Some((&ts[0], &ts[1]))
+    } else {
+        None
+    }
 }
 
 /// The three terms of a list.
@@ -51,7 +55,11 @@ fn pair(ts: &[Term]) -> Option<(&Term, &Term)>
 fn triple(ts: &[Term]) -> Option<(&Term, &Term, &Term)>
     ensures { option_map (λ p. (p.0.now, p.1.now, p.2.now)) result ≡ choice_of (choice (trees ts.now)) }
 {
-    if ts.len() == 3 { Some((&ts[0], &ts[1], &ts[2])) } else { None }
+    if ts.len() == 3 {
+        Some((&ts[0], &ts[1], &ts[2]))
+    } else {
+        None
+    }
 }
 
 /// The truth value that a term is.

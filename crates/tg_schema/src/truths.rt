@@ -41,7 +41,11 @@ pub(crate) fn left_truth(t: &Term, o: OpId, b: bool, other: Other) -> Option<Fou
     ensures { option_map term_of result ≡ left_truth (operator o) b (becomes other) t.now }
 {
     let (left, right) = binary(t, o)?;
-    if truth_of(left)? == b { Some(becomes(other, right)) } else { None }
+    if truth_of(left)? == b {
+        Some(becomes(other, right))
+    } else {
+        None
+    }
 }
 
 /// An operator whose right side is the truth value.
@@ -49,7 +53,11 @@ pub(crate) fn right_truth(t: &Term, o: OpId, b: bool, other: Other) -> Option<Fo
     ensures { option_map term_of result ≡ right_truth (operator o) b (becomes other) t.now }
 {
     let (left, right) = binary(t, o)?;
-    if truth_of(right)? == b { Some(becomes(other, left)) } else { None }
+    if truth_of(right)? == b {
+        Some(becomes(other, left))
+    } else {
+        None
+    }
 }
 
 /// An operator whose two sides are equal.
@@ -57,7 +65,11 @@ pub(crate) fn alike(t: &Term, o: OpId, other: Other) -> Option<Found<'_>>
     ensures { option_map term_of result ≡ alike (operator o) (becomes other) t.now }
 {
     let (left, right) = binary(t, o)?;
-    if equal(left, right) { Some(becomes(other, left)) } else { None }
+    if equal(left, right) {
+        Some(becomes(other, left))
+    } else {
+        None
+    }
 }
 
 /// `~ True`, or `~ False`.
@@ -65,7 +77,11 @@ pub(crate) fn not_truth(t: &Term, b: bool) -> Option<Found<'_>>
     ensures { option_map term_of result ≡ not_truth b t.now }
 {
     let a = unary(t, NEGATION)?;
-    if truth_of(a)? == b { Some(Found::Truth(!b)) } else { None }
+    if truth_of(a)? == b {
+        Some(Found::Truth(!b))
+    } else {
+        None
+    }
 }
 
 /// `~ ~ a`.
@@ -93,7 +109,11 @@ pub(crate) fn if_same(t: &Term) -> Option<Found<'_>>
     ensures { option_map term_of result ≡ if_same t.now }
 {
     let (_, left, right) = choice_of(t)?;
-    if equal(left, right) { Some(part(left)) } else { None }
+    if equal(left, right) {
+        Some(part(left))
+    } else {
+        None
+    }
 }
 
 /// A `let`.
