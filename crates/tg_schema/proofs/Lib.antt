@@ -6,3 +6,4 @@ pub mod CallLaws
 pub mod BuildLaws
 pub mod TableLaws
 pub mod StepLaws
+pub mod SpanLaws

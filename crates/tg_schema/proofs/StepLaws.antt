@@ -11,6 +11,7 @@ use Rattle.tg_rows.specs.Rows.{Row, rows, row, first, first_of, first_from}
 use Rattle.tg_rows.proofs.AllRows.{rows_keep}
 use Rattle.tg_rows.proofs.RowInputs.{rows_keep_inputs}
 use Rattle.std.specs.Option.{is_some}
+use Rattle.tg_schema.specs.Spans.{IsSpan}
 use Rattle.tg_schema.specs.Steps.{IsStep}
 use Rattle.tg_schema.specs.Found.{term_of}
 use Rattle.tg_schema.specs.declared.found.Found.{Found}
@@ -62,12 +63,17 @@ pub first_found : (th : Theory) (s : ℕ) (t u : Tree) → NoneBelow th s t → 
 first_found th zero t u h e = cc e
 first_found th (suc i) t u h e = found_in (rows th) 1 (suc i) i t u (omega arith) (λ k lt. h (suc k) (omega (arith, lt))) e
 
-pub first_none : (th : Theory) (s : ℕ) (t : Tree) → NoneBelow th s t → 49 ≤ s → None ≡ number_of_first (first th t)
-first_none th s t h e = none_in (rows th) 1 t (λ k lt. h (suc k) (let n : k < 48 = lt in omega (arith, n, e)))
+pub first_none : (th : Theory) (low high s : ℕ) (t : Tree) → IsSpan th t low high → NoneBelow th s t → high ≤ s → None ≡ number_of_first (first th t)
+first_none th low high s t k h e = none_in (rows th) 1 t (λ i lt. by (suc i))
+  where
+    by : (i : ℕ) → None ≡ row th i t
+    by i = elim (cases_lt i s) [
+      | inl l ↦ h i l
+      | inr le ↦ sym (k.above i (omega (arith, e, le)))
+    ]
 
-pub none_below_one : (th : Theory) (t : Tree) → NoneBelow th 1 t
-none_below_one th t zero lt = refl
-none_below_one th t (suc k) lt = absurd (omega (arith, lt))
+pub none_below_first : (th : Theory) (low high : ℕ) (t : Tree) → IsSpan th t low high → NoneBelow th low t
+none_below_first th low high t k i lt = sym (k.below i lt)
 
 pub none_below_next : (th : Theory) (s : ℕ) (t : Tree) → NoneBelow th s t → None ≡ row th s t → NoneBelow th (s + 1) t
 none_below_next th s t h e k lt = elim (cases_lt k s) [

@@ -10,6 +10,7 @@ mod numbers;
 mod opening;
 mod operators;
 mod parts;
+mod span;
 mod table;
 mod truths;
 
@@ -18,7 +19,8 @@ ghost use Rattle.tg_rows.specs.Rows.{row, first};
 ghost use Rattle.tg_schema.specs.Steps.{IsStep};
 
 use crate::building::build;
-use crate::table::{ROW_END, find};
+use crate::span::span;
+use crate::table::find;
 use std::alloc::{AllocError, Global};
 use tg_term::Term;
 use tg_theory::Theory;
@@ -51,7 +53,8 @@ pub fn first(th: &Theory, t: &Term) -> Option<SchemaId>
     ensures { result ≡ option_map (λ p. p.0) (first th.now t.now) }
 {
     let declared = th.declarations();
-    for number in 1..ROW_END {
+    let (low, high) = span(t);
+    for number in low..high {
         if find(declared, number, t).is_some() {
             return Some(number);
         }

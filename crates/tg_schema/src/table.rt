@@ -18,9 +18,6 @@ use crate::truths::{
 use tg_declarations::Declarations;
 use tg_term::Term;
 
-/// One more than the number of the last row.
-pub(crate) const ROW_END: u32 = 49;
-
 /// What a row makes of a term, by the row's number, from 1.
 pub(crate) fn find<'a>(declared: &'a Declarations, number: u32, t: &'a Term) -> Option<Found<'a>>
     ensures { option_map term_of result ≡ row (theory [] declared.now) number t.now }
