@@ -1,4 +1,4 @@
--- The reserved words and the symbols, each with its place in the list of the language.
+-- The reserved words, the symbols and the names of the rewrite schemas, each with its place in its list.
 use Rattle.std.specs.Prelude.{List, [], ◌∷◌, codes}
 use Rattle.tg_tables.specs.Rows.{Entry, entry}
 use Rattle.tg_tables.specs.SymbolCodes.{open_paren, close_paren, open_brace, close_brace, open_bracket, close_bracket, comma, semicolon, dot, equal, less}
@@ -59,4 +59,56 @@ symbol_list = entry (codes "!") bang
     ∷ entry (codes "|") or
     ∷ entry (codes "}") close_brace
     ∷ entry (codes "~") not
+    ∷ []
+
+-- the names of the rewrite schemas, in the order of their bytes
+abbrev pub schema_list : List Entry
+schema_list = entry (codes "add_lit") 40
+    ∷ entry (codes "and_false_l") 5
+    ∷ entry (codes "and_false_r") 7
+    ∷ entry (codes "and_same") 8
+    ∷ entry (codes "and_true_l") 4
+    ∷ entry (codes "and_true_r") 6
+    ∷ entry (codes "case_con") 23
+    ∷ entry (codes "case_lit") 25
+    ∷ entry (codes "case_suc") 24
+    ∷ entry (codes "div_lit") 43
+    ∷ entry (codes "eq_con") 31
+    ∷ entry (codes "eq_con_diff") 32
+    ∷ entry (codes "eq_false") 38
+    ∷ entry (codes "eq_lit") 33
+    ∷ entry (codes "eq_same") 30
+    ∷ entry (codes "eq_suc") 34
+    ∷ entry (codes "eq_suc_lit") 36
+    ∷ entry (codes "eq_true") 37
+    ∷ entry (codes "eq_zero_suc") 35
+    ∷ entry (codes "if_false") 20
+    ∷ entry (codes "if_same") 21
+    ∷ entry (codes "if_true") 19
+    ∷ entry (codes "imp_false_l") 15
+    ∷ entry (codes "imp_false_r") 17
+    ∷ entry (codes "imp_same") 18
+    ∷ entry (codes "imp_true_l") 14
+    ∷ entry (codes "imp_true_r") 16
+    ∷ entry (codes "le_lit") 48
+    ∷ entry (codes "le_same") 47
+    ∷ entry (codes "less_lit") 46
+    ∷ entry (codes "less_same") 45
+    ∷ entry (codes "let_sub") 22
+    ∷ entry (codes "mod_lit") 44
+    ∷ entry (codes "mul_lit") 42
+    ∷ entry (codes "not_false") 2
+    ∷ entry (codes "not_not") 3
+    ∷ entry (codes "not_true") 1
+    ∷ entry (codes "or_false_l") 10
+    ∷ entry (codes "or_false_r") 12
+    ∷ entry (codes "or_same") 13
+    ∷ entry (codes "or_true_l") 9
+    ∷ entry (codes "or_true_r") 11
+    ∷ entry (codes "sub_lit") 41
+    ∷ entry (codes "suc_lit") 39
+    ∷ entry (codes "unfold_con") 27
+    ∷ entry (codes "unfold_def") 26
+    ∷ entry (codes "unfold_lit") 29
+    ∷ entry (codes "unfold_suc") 28
     ∷ []
