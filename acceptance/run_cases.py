@@ -7,7 +7,8 @@ PROGRAM is crates/testgen/out/testgen where none is named. A case is a folder of
   status  the exit status            out   standard output, byte for byte      err   standard error, byte for byte
 
 After them come cases that are made here: each front of a theory with the place of its fault, inputs of the greatest size and
-one byte more, and four texts with every kind of token in every place, whose faults viable.py tells.
+one byte more, theories that are accepted or refused (theories.py), and four texts with every kind of token in every place,
+whose faults viable.py tells.
 
 The last line is 'N passed, N failed'; the exit status is 0 where none failed and some passed.
 """
@@ -17,6 +18,7 @@ import re
 import subprocess
 import sys
 
+import theories
 import viable
 
 HERE = os.path.dirname(os.path.abspath(__file__))
@@ -100,7 +102,7 @@ def main():
     if not os.access(program, os.X_OK):
         print(f'no program stands at {program}: rt ci makes it\n0 passed, 1 failed')
         return 1
-    cases = [(faults, case) for case in (*stored(), *cuts(), *sizes())] + [(token_faults, case) for case in tokens()]
+    cases = [(faults, case) for case in (*stored(), *cuts(), *sizes(), *theories.cases())] + [(token_faults, case) for case in tokens()]
     passed = failed = 0
     with concurrent.futures.ThreadPoolExecutor() as pool:
         for (_, case), found in zip(cases, pool.map(lambda c: c[0](program, *c[1][1:]), cases)):

@@ -12,7 +12,7 @@ use Rattle.tg_cmd.specs.declared.answer.Answer.{Answer}
 use Rattle.tg_cmd.specs.declared.answer.Answer.TheVariants.{Done, TestsFailed, Usage, ReadFault, WriteFault, Memory, Refused, Limit}
 use Rattle.tg_cmd.specs.declared.answer.Refusal.TheVariants.{Early}
 use Rattle.tg_cmd.specs.declared.answer.Refusal.TheVariants as refusals
-use Rattle.tg_cmd.specs.declared.answer.LimitName.TheVariants.{Input, Number, Nesting}
+use Rattle.tg_cmd.specs.declared.answer.LimitName.TheVariants.{Input, Number, Nesting, TermSize}
 use Rattle.tg_cmd.specs.declared.command.Command.{Command}
 use Rattle.tg_cmd.specs.declared.command.Command.TheVariants.{Generate, Judge}
 use Rattle.tg_cmd.specs.Form.{Form, raw_theory}
@@ -44,11 +44,17 @@ module _ (s : Settings) (input : List ℕ) (text : List ℕ) where
   generated : (a : Answer) → IsOutput Generate s input a text → Completes Generate s input a
   generated Done h short f reads = inl refl
   generated TestsFailed h short f reads = let wrong : TestsFailed ≡ Done = h.1.1 in absurd cc
-  generated (Refused Early) h short f reads = absurd (h.1.2 f reads)
+  generated (Refused Early) h short f reads = absurd (h.1.is.other f reads)
+  generated (Refused (refusals.Name place)) h short f reads = absurd (h.1.is.other f reads)
+  generated (Refused (refusals.Typing place)) h short f reads = absurd (h.1.is.other f reads)
+  generated (Refused (refusals.Ambiguous place)) h short f reads = absurd (h.1.is.other f reads)
+  generated (Refused (refusals.Shape place)) h short f reads = absurd (h.1.is.other f reads)
+  generated (Refused (refusals.Program place)) h short f reads = absurd (h.1.is.other f reads)
   generated (Refused (refusals.Form place)) h short f reads = absurd (no_form_fault Theory input (raw_theory f) reads.text place h.1)
   generated (Limit Input) h short f reads = absurd (too_long input h.0 short)
   generated (Limit Number) h short f reads = absurd (not_too_large Theory input (raw_theory f) reads.text h.1)
   generated (Limit Nesting) h short f reads = absurd (not_too_nested Theory input (raw_theory f) reads.text h.1)
+  generated (Limit TermSize) h short f reads = absurd (h.1.1.is.other f reads)
   generated Usage h short f reads = absurd h
   generated ReadFault h short f reads = absurd h
   generated (WriteFault written) h short f reads = absurd h
@@ -64,11 +70,17 @@ module _ (s : Settings) (input : List ℕ) (text : List ℕ) where
     judged : (a : Answer) → IsOutput Judge s input a text → (a ≡ answer_on (verdict f o)) ⊎ IsInterrupted a
     judged Done h = inl (h.1.ends ∙ verdict_one h.1.form h.1.outcome (h.1.only f o reads))
     judged TestsFailed h = inl (h.1.ends ∙ verdict_one h.1.form h.1.outcome (h.1.only f o reads))
-    judged (Refused Early) h = absurd (h.1.2 f o reads)
+    judged (Refused Early) h = absurd (h.1.is.other f o reads)
+    judged (Refused (refusals.Name place)) h = absurd (h.1.is.other f o reads)
+    judged (Refused (refusals.Typing place)) h = absurd (h.1.is.other f o reads)
+    judged (Refused (refusals.Ambiguous place)) h = absurd (h.1.is.other f o reads)
+    judged (Refused (refusals.Shape place)) h = absurd (h.1.is.other f o reads)
+    judged (Refused (refusals.Program place)) h = absurd (h.1.is.other f o reads)
     judged (Refused (refusals.Form place)) h = absurd (no_form_fault parts.Judge input (raw_theory f, raw_outcomes s o) is_text place h.1)
     judged (Limit Input) h = absurd (too_long input h.0 short)
     judged (Limit Number) h = absurd (not_too_large parts.Judge input (raw_theory f, raw_outcomes s o) is_text h.1)
     judged (Limit Nesting) h = absurd (not_too_nested parts.Judge input (raw_theory f, raw_outcomes s o) is_text h.1)
+    judged (Limit TermSize) h = absurd (h.1.1.is.other f o reads)
     judged Usage h = absurd h
     judged ReadFault h = absurd h
     judged (WriteFault written) h = absurd h

@@ -22,10 +22,13 @@ use Rattle.tg_cmd.specs.declared.command.Command.{Command}
 use Rattle.tg_cmd.specs.declared.command.Command.TheVariants.{Generate, Judge}
 use Rattle.tg_cmd.specs.Form.{Form, HasForm, raw_theory}
 use Rattle.tg_cmd.specs.Outcomes.{raw_item, raw_items, raw_outcomes, AreOutcomes}
-use Rattle.tg_cmd.specs.Reading.{IsTextOf, ReadsForm, ReadsJudged}
+use Rattle.tg_accept.specs.Checks as checks
+use Rattle.tg_accept.specs.Checks.{Kind}
+use Rattle.tg_cmd.specs.Answers.{answer_for, line_for}
+use Rattle.tg_cmd.specs.Reading.{IsTextOf, IsRefusedTheory, ReadsForm, ReadsJudged}
 use Rattle.tg_cmd.specs.Theorem.{has_datum}
 use Rattle.tg_cmd.specs.Verdicts.{verdict, answer_on}
-use Rattle.tg_cmd.specs.Output.{longest, part_of, IsJudgement, IsOutput, IsReportOf, IsJudgementOf, IsFaultLine, HasTokenLine}
+use Rattle.tg_cmd.specs.Output.{longest, part_of, theory_of, IsOther, HasTheoryFault, IsDeclined, IsJudgement, IsOutput, IsReportOf, IsJudgementOf, IsFaultLine, HasTokenLine}
 use Rattle.tg_cmd.proofs.Forms.{one_form, one_record}
 use Rattle.tg_cmd.proofs.Truths.{true_theorem, headline}
 
@@ -58,16 +61,32 @@ module _ (bytes : List ℕ) (tokens : List Token) (lexed : Reads bytes tokens) (
   text_of : (n : Part) (v : Value n) → Parses n bytes tokens (Ok v) → IsTextOf n bytes v
   text_of n v h = record { tokens = tokens; lexed = lexed; shallow = h.0; text = h.1 }
 
+  -- a text of another form
+  declined : (command : Command) (s : Settings) (is : IsOther command s bytes) (answer : Answer) (text : List ℕ) → IsDeclined (theory_of command is.value) answer text
+      → IsOutput command s bytes answer text
+  declined command s is answer text (inl (accepted, ends, printed)) =
+      subst (λ a. IsOutput command s bytes a text) (sym ends) (short, record { is = is; accepted = accepted }, printed)
+  declined command s is answer text (inr (place, k, h, ends, printed)) = subst (λ a. IsOutput command s bytes a text) (sym ends) (of k h printed)
+    where
+      fault : (k : Kind) → IsRefusedTheory (theory_of command is.value) place k → HasTheoryFault command s bytes place k
+      fault k h = record { is = is; refused = h }
+      of : (k : Kind) → IsRefusedTheory (theory_of command is.value) place k → text ≡ line_for k place → IsOutput command s bytes (answer_for k place) text
+      of checks.term_size h e = (short, (place, fault checks.term_size h), e)
+      of checks.name h e = (short, fault checks.name h, e)
+      of checks.typing h e = (short, fault checks.typing h, e)
+      of checks.ambiguous h e = (short, fault checks.ambiguous h, e)
+      of checks.shape h e = (short, fault checks.shape h, e)
+      of checks.program h e = (short, fault checks.program h, e)
+
   pub theory_output : (s : Settings) (theory : RawTheory) (answer : Answer) (text : List ℕ) → Parses Theory bytes tokens (Ok theory)
       → IsReportOf s theory answer text → IsOutput Generate s bytes answer text
   theory_output s theory answer text h (inl (f, has, ends, printed)) =
       let reads : ReadsForm bytes f = record { form = has.0; text = subst (IsTextOf Theory bytes) has.1 (text_of Theory theory h) } in
       subst (λ a. IsOutput Generate s bytes a text) (sym ends)
       (short, (record { form = f; reads = reads; only = λ g k. only_form bytes g f k reads; printed = printed; theorem = true_theorem f (has_datum f) (λ e. e) }, refl))
-  theory_output s theory answer text h (inr (none, ends, printed)) =
+  theory_output s theory answer text h (inr (none, line)) =
       let whole = text_of Theory theory h in
-      subst (λ a. IsOutput Generate s bytes a text) (sym ends)
-      (short, (theory, whole, λ f k. none f (k.form, one_text Theory bytes theory (raw_theory f) whole k.text)), printed)
+      declined Generate s (record { value = theory; text = whole; other = λ f k. none f (k.form, one_text Theory bytes theory (raw_theory f) whole k.text) }) answer text line
 
   reported : (v : Verdict) (s : Settings) (text : List ℕ) → IsJudgement s bytes (answer_on v) text → IsOutput Judge s bytes (answer_on v) text
   reported Passed s text h = (short, h)
@@ -92,19 +111,16 @@ module _ (bytes : List ℕ) (tokens : List Token) (lexed : Reads bytes tokens) (
         ends = refl;
         headline = headline f o;
       }))
-  judge_output s theory outcomes answer text h (inr (none, ends, printed)) =
+  judge_output s theory outcomes answer text h (inr (none, line)) =
       let whole = text_of parts.Judge (theory, outcomes) h in
-      subst (λ a. IsOutput Judge s bytes a text) (sym ends) (
-        short,
-        (
-          (theory, outcomes),
-          whole,
-          λ f o k.
-              let same = one_text parts.Judge bytes (theory, outcomes) (raw_theory f, raw_outcomes s o) whole k.text in
-              none f o (k.form, ap (λ (x : RawTheory × RawOutcomes). x.0) same) (k.recorded, ap (λ (x : RawTheory × RawOutcomes). x.1) same),
-        ),
-        printed,
-      )
+      declined Judge s
+      (record {
+        value = (theory, outcomes);
+        text = whole;
+        other = λ f o k.
+            let same = one_text parts.Judge bytes (theory, outcomes) (raw_theory f, raw_outcomes s o) whole k.text in
+            none f o (k.form, ap (λ (x : RawTheory × RawOutcomes). x.0) same) (k.recorded, ap (λ (x : RawTheory × RawOutcomes). x.1) same);
+      }) answer text line
 
   -- ---- of tokens that are none
 

@@ -1,14 +1,16 @@
 -- What answers mean to the caller of the program.
 use Rattle.std.specs.Prelude.{ℕ, List, ◌++◌, codes, decimal}
 use Rattle.tg_lex.specs.Load.{load_limit}
+use Rattle.tg_accept.specs.Checks as checks
+use Rattle.tg_accept.specs.Checks.{Kind}
 use Rattle.tg_cmd.specs.declared.answer.Answer.{Answer}
 use Rattle.tg_cmd.specs.declared.answer.Answer.TheVariants.{Done, TestsFailed, Usage, ReadFault, WriteFault, Memory, Refused, Limit}
 use Rattle.tg_cmd.specs.declared.answer.Ending.{Ending}
 use Rattle.tg_cmd.specs.declared.answer.Ending.TheVariants as endings
 use Rattle.tg_cmd.specs.declared.answer.Refusal.{Refusal}
-use Rattle.tg_cmd.specs.declared.answer.Refusal.TheVariants.{Early, Form}
+use Rattle.tg_cmd.specs.declared.answer.Refusal.TheVariants.{Early, Form, Name, Typing, Ambiguous, Shape, Program}
 use Rattle.tg_cmd.specs.declared.answer.LimitName.{LimitName}
-use Rattle.tg_cmd.specs.declared.answer.LimitName.TheVariants.{Input, Number, Nesting}
+use Rattle.tg_cmd.specs.declared.answer.LimitName.TheVariants.{Input, Number, Nesting, TermSize}
 
 abbrev pub status_of : Answer → ℕ
 status_of Done = 0
@@ -24,11 +26,17 @@ status_of (Limit name) = 7
 abbrev pub refusal_line : Refusal → List ℕ
 refusal_line Early = codes "refused early\n"
 refusal_line (Form place) = codes "refused form at declaration " ++ (decimal place ++ codes "\n")
+refusal_line (Name place) = codes "refused name at declaration " ++ (decimal place ++ codes "\n")
+refusal_line (Typing place) = codes "refused typing at declaration " ++ (decimal place ++ codes "\n")
+refusal_line (Ambiguous place) = codes "refused ambiguous at declaration " ++ (decimal place ++ codes "\n")
+refusal_line (Shape place) = codes "refused shape at declaration " ++ (decimal place ++ codes "\n")
+refusal_line (Program place) = codes "refused program at declaration " ++ (decimal place ++ codes "\n")
 
 abbrev pub limit_line : LimitName → List ℕ
 limit_line Input = codes "limit input 16777216\n"
 limit_line Number = codes "limit number 18446744073709551615\n"
 limit_line Nesting = codes "limit nesting " ++ (decimal load_limit ++ codes "\n")
+limit_line TermSize = codes "limit termsize 100000\n"
 
 -- once the output was written
 abbrev pub answer_after : Ending → Answer
@@ -36,3 +44,20 @@ answer_after endings.Done = Done
 answer_after endings.TestsFailed = TestsFailed
 answer_after (endings.Refused refusal) = Refused refusal
 answer_after (endings.Limit name) = Limit name
+
+-- the answer for a fault of a theory, and its line
+abbrev pub answer_for : Kind → ℕ → Answer
+answer_for checks.term_size place = Limit TermSize
+answer_for checks.name place = Refused (Name place)
+answer_for checks.typing place = Refused (Typing place)
+answer_for checks.ambiguous place = Refused (Ambiguous place)
+answer_for checks.shape place = Refused (Shape place)
+answer_for checks.program place = Refused (Program place)
+
+abbrev pub line_for : Kind → ℕ → List ℕ
+line_for checks.term_size place = limit_line TermSize
+line_for checks.name place = refusal_line (Name place)
+line_for checks.typing place = refusal_line (Typing place)
+line_for checks.ambiguous place = refusal_line (Ambiguous place)
+line_for checks.shape place = refusal_line (Shape place)
+line_for checks.program place = refusal_line (Program place)

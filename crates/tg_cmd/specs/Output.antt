@@ -2,6 +2,8 @@
 use Rattle.std.specs.Prelude.{ℕ, ◌+◌, ◌≡◌, ◌<◌, ◌≤◌, ◌⊎◌, List, length, take, Option, Some, None, IfSome}
 use Rattle.std.specs.Io.KnownBytes.{Consumes, IsAtEnd, Appends}
 use Rattle.tg_io.specs.Faults.{Rose}
+use Rattle.tg_accept.specs.Checks as checks
+use Rattle.tg_accept.specs.Checks.{Kind}
 use Rattle.tg_types.specs.declared.options.Settings.{Settings}
 use Rattle.tg_grammar.specs.declared.declarations.RawTheory.{RawTheory}
 use Rattle.tg_grammar.specs.declared.outcomes.RawOutcomes.{RawOutcomes}
@@ -13,13 +15,13 @@ use Rattle.tg_cmd.specs.declared.answer.Answer.{Answer}
 use Rattle.tg_cmd.specs.declared.answer.Answer.TheVariants.{Done, TestsFailed, Usage, ReadFault, WriteFault, Memory, Refused, Limit}
 use Rattle.tg_cmd.specs.declared.answer.Refusal.TheVariants.{Early}
 use Rattle.tg_cmd.specs.declared.answer.Refusal.TheVariants as refusals
-use Rattle.tg_cmd.specs.declared.answer.LimitName.TheVariants.{Input, Number, Nesting}
+use Rattle.tg_cmd.specs.declared.answer.LimitName.TheVariants.{Input, Number, Nesting, TermSize}
 use Rattle.tg_cmd.specs.declared.command.Command.{Command}
 use Rattle.tg_cmd.specs.declared.command.Command.TheVariants.{Generate, Judge}
-use Rattle.tg_cmd.specs.Answers.{refusal_line, limit_line}
+use Rattle.tg_cmd.specs.Answers.{refusal_line, limit_line, answer_for, line_for}
 use Rattle.tg_cmd.specs.Form.{Form, HasForm}
 use Rattle.tg_cmd.specs.Outcomes.{AreOutcomes}
-use Rattle.tg_cmd.specs.Reading.{IsTextOf, HasTokenFault, HasFormFault, IsTooLarge, IsTooNested, ReadsForm, ReadsJudged}
+use Rattle.tg_cmd.specs.Reading.{IsTextOf, IsAcceptedTheory, IsRefusedTheory, HasTokenFault, HasFormFault, IsTooLarge, IsTooNested, ReadsForm, ReadsJudged}
 use Rattle.tg_cmd.specs.Report.{report}
 use Rattle.tg_cmd.specs.Theorem.{has_datum}
 use Rattle.tg_cmd.specs.Truths.{IsTrueTheorem, IsHeadline}
@@ -63,9 +65,26 @@ abbrev pub HasOtherForm : Command → Settings → List ℕ → Type 0
 HasOtherForm Generate s input = (f : Form) → ReadsForm input f → ⊥
 HasOtherForm Judge s input = (f : Form) (o : Option ℕ) → ReadsJudged s input f o → ⊥
 
+-- the theory of what is read
+abbrev pub theory_of : (c : Command) → Value (part_of c) → RawTheory
+theory_of Generate v = v
+theory_of Judge v = v.0
+
 -- the input is a text of the grammar that has another form
-abbrev pub IsEarly : Command → Settings → List ℕ → Type 0
-IsEarly command s input = (value : Value (part_of command)) × IsTextOf (part_of command) input value × HasOtherForm command s input
+pub record IsOther (command : Command) (s : Settings) (input : List ℕ) : Type 0 where
+  pub value : Value (part_of command)
+  pub text : IsTextOf (part_of command) input value
+  pub other : HasOtherForm command s input
+
+-- and its theory is accepted
+pub record IsEarly (command : Command) (s : Settings) (input : List ℕ) : Type 0 where
+  pub is : IsOther command s input
+  pub accepted : IsAcceptedTheory (theory_of command is.value)
+
+-- or it isn't, for a fault of this kind at a declaration
+pub record HasTheoryFault (command : Command) (s : Settings) (input : List ℕ) (place : ℕ) (k : Kind) : Type 0 where
+  pub is : IsOther command s input
+  pub refused : IsRefusedTheory (theory_of command is.value) place k
 
 -- what a run of the command that ends with the answer has to write, where the source held `input`
 abbrev pub IsOutput : Command → Settings → List ℕ → Answer → List ℕ → Type 0
@@ -74,9 +93,21 @@ IsOutput command s input TestsFailed text = (length input ≤ longest) × IsRepo
 IsOutput command s input (Refused Early) text = (length input ≤ longest) × IsEarly command s input × (text ≡ refusal_line Early)
 IsOutput command s input (Refused (refusals.Form place)) text =
     (length input ≤ longest) × HasFormFault (part_of command) input place × (text ≡ refusal_line (refusals.Form place))
+IsOutput command s input (Refused (refusals.Name place)) text =
+    (length input ≤ longest) × HasTheoryFault command s input place checks.name × (text ≡ refusal_line (refusals.Name place))
+IsOutput command s input (Refused (refusals.Typing place)) text =
+    (length input ≤ longest) × HasTheoryFault command s input place checks.typing × (text ≡ refusal_line (refusals.Typing place))
+IsOutput command s input (Refused (refusals.Ambiguous place)) text =
+    (length input ≤ longest) × HasTheoryFault command s input place checks.ambiguous × (text ≡ refusal_line (refusals.Ambiguous place))
+IsOutput command s input (Refused (refusals.Shape place)) text =
+    (length input ≤ longest) × HasTheoryFault command s input place checks.shape × (text ≡ refusal_line (refusals.Shape place))
+IsOutput command s input (Refused (refusals.Program place)) text =
+    (length input ≤ longest) × HasTheoryFault command s input place checks.program × (text ≡ refusal_line (refusals.Program place))
 IsOutput command s input (Limit Input) text = (longest < length input) × (text ≡ limit_line Input)
 IsOutput command s input (Limit Number) text = (length input ≤ longest) × IsTooLarge input × (text ≡ limit_line Number)
 IsOutput command s input (Limit Nesting) text = (length input ≤ longest) × IsTooNested input × (text ≡ limit_line Nesting)
+IsOutput command s input (Limit TermSize) text =
+    (length input ≤ longest) × ((place : ℕ) × HasTheoryFault command s input place checks.term_size) × (text ≡ limit_line TermSize)
 IsOutput command s input Usage text = ⊥
 IsOutput command s input ReadFault text = ⊥
 IsOutput command s input (WriteFault written) text = ⊥
@@ -165,17 +196,23 @@ Completes Judge s input answer =
 
 -- ---- how a run comes to its output
 
+-- the output of a theory that has another form
+abbrev pub IsDeclined : RawTheory → Answer → List ℕ → Type 0
+IsDeclined theory answer text =
+    (IsAcceptedTheory theory × (answer ≡ Refused Early) × (text ≡ refusal_line Early))
+    ⊎ ((place : ℕ) × (k : Kind) × IsRefusedTheory theory place k × (answer ≡ answer_for k place) × (text ≡ line_for k place))
+
 -- the output of a theory as it is read
 abbrev pub IsReportOf : Settings → RawTheory → Answer → List ℕ → Type 0
 IsReportOf s theory answer text =
     ((f : Form) × HasForm theory f × (answer ≡ Done) × (text ≡ report s f None))
-    ⊎ (((f : Form) → HasForm theory f → ⊥) × (answer ≡ Refused Early) × (text ≡ refusal_line Early))
+    ⊎ (((f : Form) → HasForm theory f → ⊥) × IsDeclined theory answer text)
 
 -- the output of a theory and its outcomes as they are read
 abbrev pub IsJudgementOf : Settings → RawTheory → RawOutcomes → Answer → List ℕ → Type 0
 IsJudgementOf s theory outcomes answer text =
     ((f : Form) × (o : Option ℕ) × HasForm theory f × AreOutcomes s f outcomes o × (answer ≡ answer_on (verdict f o)) × (text ≡ report s f (Some (verdict f o))))
-    ⊎ (((f : Form) (o : Option ℕ) → HasForm theory f → AreOutcomes s f outcomes o → ⊥) × (answer ≡ Refused Early) × (text ≡ refusal_line Early))
+    ⊎ (((f : Form) (o : Option ℕ) → HasForm theory f → AreOutcomes s f outcomes o → ⊥) × IsDeclined theory answer text)
 
 -- the output where the tokens are no text
 abbrev pub IsFaultLine : FormErr → Answer → List ℕ → Type 0

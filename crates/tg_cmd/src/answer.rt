@@ -1,4 +1,4 @@
-ghost use Rattle.std.specs.Prelude.{◌≡◌, ◌++◌, OnOk};
+ghost use Rattle.std.specs.Prelude.{◌≡◌, ◌++◌, OnOk, codes, decimal};
 ghost use Rattle.tg_cmd.specs.Answers.{status_of, refusal_line, limit_line};
 
 use std::alloc::AllocError;
@@ -34,7 +34,7 @@ pub enum Answer {
 /// Why an input was refused.
 #[derive(Clone, Copy, Debug, PartialEq, Eq, Error)]
 pub enum Refusal {
-    /// The input is a text of the grammar, but not of the form that is taken so far.
+    /// The theory is accepted, but the input isn't of the form that is taken so far.
     #[error("refused early")]
     Early,
     /// The input is no text of the grammar.
@@ -42,6 +42,36 @@ pub enum Refusal {
     Form {
         /// How many of the words `datatype`, `primrec`, `definition`, `program`, `spec`, `outcomes` and
         /// `certificate` stand before the fault.
+        decl: u64,
+    },
+    /// A name isn't declared before, or is declared already.
+    #[error("refused name at declaration {decl}")]
+    Name {
+        /// The number of the declaration, from 1; behind all of them where one is missing.
+        decl: u64,
+    },
+    /// There is no typing.
+    #[error("refused typing at declaration {decl}")]
+    Typing {
+        /// The number of the declaration, from 1; behind all of them where one is missing.
+        decl: u64,
+    },
+    /// There are several typings.
+    #[error("refused ambiguous at declaration {decl}")]
+    Ambiguous {
+        /// The number of the declaration, from 1; behind all of them where one is missing.
+        decl: u64,
+    },
+    /// A rule of shape is broken.
+    #[error("refused shape at declaration {decl}")]
+    Shape {
+        /// The number of the declaration, from 1; behind all of them where one is missing.
+        decl: u64,
+    },
+    /// A rule on the program under test is broken.
+    #[error("refused program at declaration {decl}")]
+    Program {
+        /// The number of the declaration, from 1; behind all of them where one is missing.
         decl: u64,
     },
 }
@@ -58,6 +88,9 @@ pub enum LimitName {
     /// A load of nesting above [`LOAD_LIMIT`].
     #[error("limit nesting {}", LOAD_LIMIT)]
     Nesting,
+    /// A term of a declaration of more than 100,000 nodes.
+    #[error("limit termsize 100000")]
+    TermSize,
 }
 
 /// How a run ends whose output was written.
@@ -94,15 +127,20 @@ pub(crate) fn put_refusal(out: &mut Vec<u8>, refusal: Refusal) -> Result<(), All
 {
     match refusal {
         Refusal::Early => put(out, &[Text(b"refused early\n")]),
-        Refusal::Form { decl } => put(
-            out,
-            &[
-                Text(b"refused form at declaration "),
-                Number(decl),
-                Text(b"\n"),
-            ],
-        ),
+        Refusal::Form { decl } => put_place(out, b"refused form at declaration ", decl),
+        Refusal::Name { decl } => put_place(out, b"refused name at declaration ", decl),
+        Refusal::Typing { decl } => put_place(out, b"refused typing at declaration ", decl),
+        Refusal::Ambiguous { decl } => put_place(out, b"refused ambiguous at declaration ", decl),
+        Refusal::Shape { decl } => put_place(out, b"refused shape at declaration ", decl),
+        Refusal::Program { decl } => put_place(out, b"refused program at declaration ", decl),
     }
+}
+
+/// A line that ends with the number of a declaration.
+fn put_place(out: &mut Vec<u8>, words: &[u8], decl: u64) -> Result<(), AllocError>
+    ensures { OnOk result (out.new.items ≡ out.old.items ++ (words.now ++ (decimal decl ++ codes "\n"))) }
+{
+    put(out, &[Text(words), Number(decl), Text(b"\n")])
 }
 
 /// The line that is written in place of a result.
@@ -120,5 +158,6 @@ pub(crate) fn put_limit(out: &mut Vec<u8>, name: LimitName) -> Result<(), AllocE
                 Text(b"\n"),
             ],
         ),
+        LimitName::TermSize => put(out, &[Text(b"limit termsize 100000\n")]),
     }
 }

@@ -4,7 +4,8 @@ ghost use Rattle.tg_lex.specs.Grammar.{Reads, IsTokenOf};
 ghost use Rattle.tg_grammar.specs.Seen.{seen, declarations};
 ghost use Rattle.tg_cmd.specs.declared.answer.Refusal.TheVariants as refusals;
 ghost use Rattle.tg_cmd.specs.Answers.{answer_after, refusal_line, limit_line};
-ghost use Rattle.tg_cmd.specs.Output.{longest, IsOutput, IsRead, IsStop, IsReportOf, IsJudgementOf, IsFaultLine, HasTokenLine};
+ghost use Rattle.tg_cmd.specs.Output.{longest, IsOutput, IsRead, IsStop, IsReportOf, IsJudgementOf, IsDeclined, IsFaultLine, HasTokenLine};
+ghost use Rattle.tg_infer.specs.TextNames.{IsNamed};
 ghost use Rattle.tg_cmd.specs.Report.{report};
 ghost use Rattle.tg_cmd.specs.Verdicts.{verdict, answer_on};
 ghost use Rattle.tg_cmd.specs.Views.{form_view};
@@ -18,6 +19,7 @@ use crate::report::report;
 use crate::verdict::{ending_on, verdict};
 use std::alloc::{AllocError, Global};
 use tg_grammar::{RawOutcomes, RawTheory, place};
+use tg_infer::{TheoryErr, elaborate};
 use tg_io::{ReadErr, Source, read_all};
 use tg_lex::{LexErr, Token, lex};
 use tg_syntax::{FormErr, parse_judge, parse_theory};
@@ -136,6 +138,7 @@ fn without_text(alloc: Global, error: FormErr) -> Result<Output, NoMemory>
 }
 
 fn reported(alloc: Global, settings: &Settings, theory: &RawTheory) -> Result<Output, NoMemory>
+    requires { IsNamed theory.now }
     ensures { IfOk result (λ o. IsReportOf settings.now theory.now (answer_after o.ending) o.text.items) }
 {
     match form_of(theory) {
@@ -143,7 +146,7 @@ fn reported(alloc: Global, settings: &Settings, theory: &RawTheory) -> Result<Ou
             text: report(alloc, settings, &form, None)?,
             ending: Ending::Done,
         }),
-        None => refused(alloc, Refusal::Early),
+        None => declined(alloc, theory),
     }
 }
 
@@ -153,14 +156,32 @@ fn judged(
     theory: &RawTheory,
     outcomes: &RawOutcomes,
 ) -> Result<Output, NoMemory>
+    requires { IsNamed theory.now }
     ensures { IfOk result (λ o. IsJudgementOf settings.now theory.now outcomes.now (answer_after o.ending) o.text.items) }
 {
     match form_of(theory) {
         Some(form) => match outcome_of(settings, &form, outcomes) {
             Some(answer) => judgement(alloc, settings, &form, answer),
-            None => refused(alloc, Refusal::Early),
+            None => declined(alloc, theory),
         },
-        None => refused(alloc, Refusal::Early),
+        None => declined(alloc, theory),
+    }
+}
+
+/// The output where the input isn't of the form.
+fn declined(alloc: Global, theory: &RawTheory) -> Result<Output, NoMemory>
+    requires { IsNamed theory.now }
+    ensures { IfOk result (λ o. IsDeclined theory.now (answer_after o.ending) o.text.items) }
+{
+    match elaborate(alloc, theory) {
+        Ok(_) => refused(alloc, Refusal::Early),
+        Err(TheoryErr::TermSize { .. }) => limited(alloc, LimitName::TermSize),
+        Err(TheoryErr::Name { decl }) => refused(alloc, Refusal::Name { decl }),
+        Err(TheoryErr::Typing { decl }) => refused(alloc, Refusal::Typing { decl }),
+        Err(TheoryErr::Ambiguous { decl }) => refused(alloc, Refusal::Ambiguous { decl }),
+        Err(TheoryErr::Shape { decl }) => refused(alloc, Refusal::Shape { decl }),
+        Err(TheoryErr::Program { decl }) => refused(alloc, Refusal::Program { decl }),
+        Err(TheoryErr::Memory) => Err(NoMemory),
     }
 }
 

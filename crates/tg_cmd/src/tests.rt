@@ -130,17 +130,26 @@ classes 1 tests 0 open 1
 }
 
 #[test]
-fn a_text_of_another_form_is_refused_early(rt: HostRuntime) -> Result<(), Fail> {
-    let inputs: [&[u8]; 2] = [
-        b"theory Inc version 1 begin end",
-        b"theory Inc version 1 begin program x :: nat => nat; spec x . x < 3 --> x < x x; end",
-    ];
-    for input in inputs {
-        let (answer, sink) = run_whole(rt.alloc(), b"generate", input)?;
-        assert_eq!(rt; answer, Answer::Refused(Refusal::Early));
-        assert_eq!(rt; answer.status(), 6);
-        assert_eq!(rt; sink.bytes(), b"refused early\n".as_slice());
-    }
+fn a_theory_of_another_form_is_refused_early(rt: HostRuntime) -> Result<(), Fail> {
+    let input = b"theory Inc version 1 begin program put :: nat => nat; spec x . put x = x; end";
+    let (answer, sink) = run_whole(rt.alloc(), b"generate", input)?;
+    assert_eq!(rt; answer, Answer::Refused(Refusal::Early));
+    assert_eq!(rt; answer.status(), 6);
+    assert_eq!(rt; sink.bytes(), b"refused early\n".as_slice());
+    Ok(())
+}
+
+#[test]
+fn a_theory_that_is_not_accepted_is_refused_at_its_place(rt: HostRuntime) -> Result<(), Fail> {
+    let input = b"theory Inc version 1 begin end";
+    let (answer, sink) = run_whole(rt.alloc(), b"generate", input)?;
+    assert_eq!(rt; answer, Answer::Refused(Refusal::Program { decl: 1 }));
+    assert_eq!(rt; answer.status(), 6);
+    assert_eq!(rt; sink.bytes(), b"refused program at declaration 1\n".as_slice());
+    let input = b"theory Inc version 1 begin program x :: nat => nat; spec x . x < 3 --> x < x x; end";
+    let (answer, sink) = run_whole(rt.alloc(), b"generate", input)?;
+    assert_eq!(rt; answer, Answer::Refused(Refusal::Name { decl: 2 }));
+    assert_eq!(rt; sink.bytes(), b"refused name at declaration 2\n".as_slice());
     Ok(())
 }
 

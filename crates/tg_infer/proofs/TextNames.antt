@@ -137,9 +137,9 @@ theory_named v h =
 
 declarations_named : (v : List RawDecl) → Says IsPartNamed (page parts.Declarations) v → AreDeclarationsNamed v
 declarations_named v h = elim h.holds [
-    inl n ↦ subst AreDeclarationsNamed (sym (h.is ∙ ap listed n)) tt
+  | inl n ↦ subst AreDeclarationsNamed (sym (h.is ∙ ap listed n)) tt
   | inr p ↦ subst AreDeclarationsNamed (sym (h.is ∙ ap listed p.1)) (p.2.first, p.2.second)
-  ]
+]
 
 datatype_named : (v : RawDecl) → Says IsPartNamed datatype v → IsDeclarationNamed v
 datatype_named v h =
@@ -180,11 +180,11 @@ constructor_named v h = subst IsName (sym (ap (λ (w : RawConDef). w.name) h.is)
 
 constructors_named : (v : List RawConDef) → Says IsPartNamed (page parts.MoreConstructors) v → AreConstructorNames v
 constructors_named v h = elim h.holds [
-    inl n ↦ subst AreConstructorNames (sym (h.is ∙ ap listed n)) tt
+  | inl n ↦ subst AreConstructorNames (sym (h.is ∙ ap listed n)) tt
   | inr p ↦
       let a = p.2 in
       subst AreConstructorNames (sym (h.is ∙ ap listed (p.1 ∙ ap Some a.is))) (a.holds.second.first, a.holds.second.second)
-  ]
+]
 
 step : (n : Part) (v : Value n) → Says IsPartNamed (page n) v → IsPartNamed n v
 step parts.Judge v h = h.first
@@ -211,6 +211,7 @@ listed_passes P (x ∷ es) text c h e = go (bytes_eq x.name text) refl (P x.name
     code : Option ℕ → ℕ
     code None = c
     code (Some n) = n
+
     go : (b : Bool) → bytes_eq x.name text ≡ b → (q : Bool) → P x.name x.code ≡ q → (q && list_all (λ (y : Entry). P y.name y.code) es) ≡ true
         → (list_all (λ (y : Entry). P y.name y.code) es ≡ true → code_in es text ≡ Some c → P text c ≡ true) → P text c ≡ true
     go b f false g k r = cc k
@@ -242,9 +243,11 @@ token_named bytes t h = record { named = λ e. go t.kind h.spelled e }
   where
     text : List ℕ
     text = text_of bytes t
+
     contrary : (b : Bool) → b ≡ true → not b ≡ true → ⊥
     contrary true e f = cc f
     contrary false e f = cc e
+
     go : (k : Kind) → Spells k (text_of bytes t) → has name_kinds (kind_of version_one k (text_of bytes t)) ≡ true → IsName (text_of bytes t)
     go Word s e = record { word = s; free = none (code_in reserved_words (text_of bytes t)) refl }
       where

@@ -26,6 +26,8 @@ mod uses;
 mod variables;
 mod words;
 
+ghost use Rattle.tg_infer.specs.TextNames.{TextsAreNamed};
+
 pub use elaborating::elaborate;
 pub use errors::TheoryErr;
 pub use numbers::Numbers;
@@ -33,8 +35,6 @@ pub use scopes::Scope;
 pub use sizes::is_larger;
 pub use variables::Variables;
 pub use words::{Word, Words};
-
-ghost use Rattle.tg_infer.specs.TextNames.{TextsAreNamed};
 
 /// The names in a text are words that aren't reserved, which `elaborate` asks for.
 pub fn texts_are_named()

@@ -5,6 +5,7 @@ use Rattle.tg_cmd.specs.declared.output.Output as code
 use Rattle.tg_cmd.specs.Answers.{answer_after}
 use Rattle.tg_cmd.specs.Output.{IsOutput, IsReportOf, IsJudgementOf, IsFaultLine}
 use Rattle.tg_cmd.proofs.Outputs.{mapped_ok, theory_output, judge_output, fault_output}
+use Rattle.tg_infer.proofs.TextNames.{texts_are_named}
 use Rattle.tg_cmd.proofs.output.of_tokens.Goals as goal
 
 pub parse_theory-requires : goal.parse_theory-requires
@@ -12,6 +13,15 @@ parse_theory-requires c = texts c.args.bytes.now c.args.tokens.now (length c.arg
 
 pub parse_judge-requires : goal.parse_judge-requires
 parse_judge-requires c = texts c.args.bytes.now c.args.tokens.now (length c.args.bytes.now) c.requires
+
+pub reported-requires : goal.reported-requires
+reported-requires c =
+    texts_are_named.alone c.args.bytes.now c.args.tokens.now c.in-Ok.theory (texts c.args.bytes.now c.args.tokens.now (length c.args.bytes.now) c.requires) c.in-Ok.ensures.reading.1
+
+pub judged-requires : goal.judged-requires
+judged-requires c =
+    texts_are_named.judged c.args.bytes.now c.args.tokens.now (c.in-Ok-parse_judge.theory, c.in-Ok-parse_judge.outcomes)
+    (texts c.args.bytes.now c.args.tokens.now (length c.args.bytes.now) c.requires) c.in-Ok-parse_judge.ensures.reading.1
 
 pub returns-in-Ok : goal.returns-in-Ok
 returns-in-Ok c =

@@ -98,6 +98,18 @@ returns-in-Refused-clause-complete g c = λ d t words.
     completed c.args.words.now r.command d r.settings t before (Refused c.in-Refused.refusal) c.in-Ok.output.text.items c.in-Some.ensures words
     (subst (λ (e : Ending). IfSome before (λ input. IsOutput r.command r.settings input (answer_after e) c.in-Ok.output.text.items)) c.in-Refused.is c.in-Ok.ensures.made)
 
+pub returns-in-Ok-write_all-clause-bytes : goal.returns-in-Ok-write_all-clause-bytes
+returns-in-Ok-write_all-clause-bytes g c = λ d t words.
+    let before = g.S.Source.left c.args.source.now in
+    let after = g.S.Source.left c.make_output.new.source in
+    let old = g.K.Sink.written c.args.sink.now in
+    let new = g.K.Sink.written c.write_all.new.sink in
+    let r = c.in-Some.request in
+    moved c.args.words.now r.command d r.settings t (Limit c.in-Limit.name) before after old new c.in-Some.ensures words
+    (written_whole r.command r.settings (endings.Limit c.in-Limit.name) c.in-Ok.output.text.items c.as_slice.result.now before after old new
+    c.as_slice.ensures.value (subst (λ (e : Ending). IfSome before (λ input. IsOutput r.command r.settings input (answer_after e) c.in-Ok.output.text.items)) c.in-Limit.is c.in-Ok.ensures.made)
+    c.in-Ok.ensures.read c.in-Ok-write_all.ensures.whole)
+
 pub returns-in-Ok-write_all-clause-complete : goal.returns-in-Ok-write_all-clause-complete
 returns-in-Ok-write_all-clause-complete g c = λ d t words.
     let before = g.S.Source.left c.args.source.now in
