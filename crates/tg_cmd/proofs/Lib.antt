@@ -1,6 +1,7 @@
 pub mod Choices
 pub mod Completeness
 pub mod Derivations
+pub mod FormAccepted
 pub mod Forms
 pub mod KnownTexts
 pub mod Outputs

@@ -29,6 +29,7 @@ use Rattle.tg_cmd.specs.Reading.{IsTextOf, IsRefusedTheory, ReadsForm, ReadsJudg
 use Rattle.tg_cmd.specs.Theorem.{has_datum}
 use Rattle.tg_cmd.specs.Verdicts.{verdict, answer_on}
 use Rattle.tg_cmd.specs.Output.{longest, part_of, theory_of, IsOther, HasTheoryFault, IsDeclined, IsJudgement, IsOutput, IsReportOf, IsJudgementOf, IsFaultLine, HasTokenLine}
+use Rattle.tg_cmd.proofs.FormAccepted.{form_accepted}
 use Rattle.tg_cmd.proofs.Forms.{one_form, one_record}
 use Rattle.tg_cmd.proofs.Truths.{true_theorem, headline}
 
@@ -70,6 +71,7 @@ module _ (bytes : List ℕ) (tokens : List Token) (lexed : Reads bytes tokens) (
     where
       fault : (k : Kind) → IsRefusedTheory (theory_of command is.value) place k → HasTheoryFault command s bytes place k
       fault k h = record { is = is; refused = h }
+
       of : (k : Kind) → IsRefusedTheory (theory_of command is.value) place k → text ≡ line_for k place → IsOutput command s bytes (answer_for k place) text
       of checks.term_size h e = (short, (place, fault checks.term_size h), e)
       of checks.name h e = (short, fault checks.name h, e)
@@ -83,7 +85,7 @@ module _ (bytes : List ℕ) (tokens : List Token) (lexed : Reads bytes tokens) (
   theory_output s theory answer text h (inl (f, has, ends, printed)) =
       let reads : ReadsForm bytes f = record { form = has.0; text = subst (IsTextOf Theory bytes) has.1 (text_of Theory theory h) } in
       subst (λ a. IsOutput Generate s bytes a text) (sym ends)
-      (short, (record { form = f; reads = reads; only = λ g k. only_form bytes g f k reads; printed = printed; theorem = true_theorem f (has_datum f) (λ e. e) }, refl))
+      (short, (record { form = f; reads = reads; only = λ g k. only_form bytes g f k reads; accepted = form_accepted f has.0; printed = printed; theorem = true_theorem f (has_datum f) (λ e. e) }, refl))
   theory_output s theory answer text h (inr (none, line)) =
       let whole = text_of Theory theory h in
       declined Generate s (record { value = theory; text = whole; other = λ f k. none f (k.form, one_text Theory bytes theory (raw_theory f) whole k.text) }) answer text line
@@ -107,6 +109,7 @@ module _ (bytes : List ℕ) (tokens : List Token) (lexed : Reads bytes tokens) (
         outcome = o;
         reads = reads;
         only = λ g p k. only_judged s bytes g f p o k reads;
+        accepted = form_accepted f has.0;
         printed = printed;
         ends = refl;
         headline = headline f o;

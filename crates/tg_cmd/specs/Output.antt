@@ -19,7 +19,7 @@ use Rattle.tg_cmd.specs.declared.answer.LimitName.TheVariants.{Input, Number, Ne
 use Rattle.tg_cmd.specs.declared.command.Command.{Command}
 use Rattle.tg_cmd.specs.declared.command.Command.TheVariants.{Generate, Judge}
 use Rattle.tg_cmd.specs.Answers.{refusal_line, limit_line, answer_for, line_for}
-use Rattle.tg_cmd.specs.Form.{Form, HasForm}
+use Rattle.tg_cmd.specs.Form.{Form, HasForm, raw_theory}
 use Rattle.tg_cmd.specs.Outcomes.{AreOutcomes}
 use Rattle.tg_cmd.specs.Reading.{IsTextOf, IsAcceptedTheory, IsRefusedTheory, HasTokenFault, HasFormFault, IsTooLarge, IsTooNested, ReadsForm, ReadsJudged}
 use Rattle.tg_cmd.specs.Report.{report}
@@ -41,6 +41,7 @@ pub record IsReport (s : Settings) (input text : List ℕ) : Type 0 where
   pub form : Form
   pub reads : ReadsForm input form
   pub only : (f : Form) → ReadsForm input f → f ≡ form
+  pub accepted : IsAcceptedTheory (raw_theory form)
   pub printed : text ≡ report s form None
   pub theorem : IsTrueTheorem form (has_datum form)
 
@@ -51,6 +52,7 @@ pub record IsJudgement (s : Settings) (input : List ℕ) (answer : Answer) (text
   pub outcome : Option ℕ
   pub reads : ReadsJudged s input form outcome
   pub only : (f : Form) (o : Option ℕ) → ReadsJudged s input f o → (f ≡ form) × (o ≡ outcome)
+  pub accepted : IsAcceptedTheory (raw_theory form)
   pub printed : text ≡ report s form (Some (verdict form outcome))
   pub ends : answer ≡ answer_on (verdict form outcome)
   pub headline : IsHeadline form outcome (verdict form outcome)

@@ -145,8 +145,12 @@ fn a_theory_that_is_not_accepted_is_refused_at_its_place(rt: HostRuntime) -> Res
     let (answer, sink) = run_whole(rt.alloc(), b"generate", input)?;
     assert_eq!(rt; answer, Answer::Refused(Refusal::Program { decl: 1 }));
     assert_eq!(rt; answer.status(), 6);
-    assert_eq!(rt; sink.bytes(), b"refused program at declaration 1\n".as_slice());
-    let input = b"theory Inc version 1 begin program x :: nat => nat; spec x . x < 3 --> x < x x; end";
+    assert_eq!(rt;
+        sink.bytes(),
+        b"refused program at declaration 1\n".as_slice()
+    );
+    let input =
+        b"theory Inc version 1 begin program x :: nat => nat; spec x . x < 3 --> x < x x; end";
     let (answer, sink) = run_whole(rt.alloc(), b"generate", input)?;
     assert_eq!(rt; answer, Answer::Refused(Refusal::Name { decl: 2 }));
     assert_eq!(rt; sink.bytes(), b"refused name at declaration 2\n".as_slice());
