@@ -34,7 +34,7 @@ use Rattle.tg_cmd.proofs.Forms.{one_form, one_record}
 use Rattle.tg_cmd.proofs.Truths.{true_theorem, headline}
 
 -- a text has one value
-one_text : (n : Part) (bytes : List ℕ) (v w : Value n) → IsTextOf n bytes v → IsTextOf n bytes w → v ≡ w
+pub one_text : (n : Part) (bytes : List ℕ) (v w : Value n) → IsTextOf n bytes v → IsTextOf n bytes w → v ≡ w
 one_text n bytes v w h k =
     let same = tokens_once bytes h.tokens k.tokens h.lexed k.lexed in
     one_value n v w (seen bytes h.tokens) h.text (subst (λ ts. IsText n w (seen bytes ts)) (sym same) k.text)
@@ -69,8 +69,8 @@ module _ (bytes : List ℕ) (tokens : List Token) (lexed : Reads bytes tokens) (
       subst (λ a. IsOutput command s bytes a text) (sym ends) (short, record { is = is; accepted = accepted }, printed)
   declined command s is answer text (inr (place, k, h, ends, printed)) = subst (λ a. IsOutput command s bytes a text) (sym ends) (of k h printed)
     where
-      fault : (k : Kind) → IsRefusedTheory (theory_of command is.value) place k → HasTheoryFault command s bytes place k
-      fault k h = record { is = is; refused = h }
+      fault : (k : Kind) → IsRefusedTheory (theory_of command is.value) place k → HasTheoryFault command bytes place k
+      fault k h = record { value = is.value; text = is.text; refused = h }
 
       of : (k : Kind) → IsRefusedTheory (theory_of command is.value) place k → text ≡ line_for k place → IsOutput command s bytes (answer_for k place) text
       of checks.term_size h e = (short, (place, fault checks.term_size h), e)

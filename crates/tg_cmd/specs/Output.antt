@@ -83,10 +83,11 @@ pub record IsEarly (command : Command) (s : Settings) (input : List ℕ) : Type 
   pub is : IsOther command s input
   pub accepted : IsAcceptedTheory (theory_of command is.value)
 
--- or it isn't, for a fault of this kind at a declaration
-pub record HasTheoryFault (command : Command) (s : Settings) (input : List ℕ) (place : ℕ) (k : Kind) : Type 0 where
-  pub is : IsOther command s input
-  pub refused : IsRefusedTheory (theory_of command is.value) place k
+-- the input is a text of the grammar whose theory isn't accepted, for a fault of this kind at a declaration
+pub record HasTheoryFault (command : Command) (input : List ℕ) (place : ℕ) (k : Kind) : Type 0 where
+  pub value : Value (part_of command)
+  pub text : IsTextOf (part_of command) input value
+  pub refused : IsRefusedTheory (theory_of command value) place k
 
 -- what a run of the command that ends with the answer has to write, where the source held `input`
 abbrev pub IsOutput : Command → Settings → List ℕ → Answer → List ℕ → Type 0
@@ -96,20 +97,20 @@ IsOutput command s input (Refused Early) text = (length input ≤ longest) × Is
 IsOutput command s input (Refused (refusals.Form place)) text =
     (length input ≤ longest) × HasFormFault (part_of command) input place × (text ≡ refusal_line (refusals.Form place))
 IsOutput command s input (Refused (refusals.Name place)) text =
-    (length input ≤ longest) × HasTheoryFault command s input place checks.name × (text ≡ refusal_line (refusals.Name place))
+    (length input ≤ longest) × HasTheoryFault command input place checks.name × (text ≡ refusal_line (refusals.Name place))
 IsOutput command s input (Refused (refusals.Typing place)) text =
-    (length input ≤ longest) × HasTheoryFault command s input place checks.typing × (text ≡ refusal_line (refusals.Typing place))
+    (length input ≤ longest) × HasTheoryFault command input place checks.typing × (text ≡ refusal_line (refusals.Typing place))
 IsOutput command s input (Refused (refusals.Ambiguous place)) text =
-    (length input ≤ longest) × HasTheoryFault command s input place checks.ambiguous × (text ≡ refusal_line (refusals.Ambiguous place))
+    (length input ≤ longest) × HasTheoryFault command input place checks.ambiguous × (text ≡ refusal_line (refusals.Ambiguous place))
 IsOutput command s input (Refused (refusals.Shape place)) text =
-    (length input ≤ longest) × HasTheoryFault command s input place checks.shape × (text ≡ refusal_line (refusals.Shape place))
+    (length input ≤ longest) × HasTheoryFault command input place checks.shape × (text ≡ refusal_line (refusals.Shape place))
 IsOutput command s input (Refused (refusals.Program place)) text =
-    (length input ≤ longest) × HasTheoryFault command s input place checks.program × (text ≡ refusal_line (refusals.Program place))
+    (length input ≤ longest) × HasTheoryFault command input place checks.program × (text ≡ refusal_line (refusals.Program place))
 IsOutput command s input (Limit Input) text = (longest < length input) × (text ≡ limit_line Input)
 IsOutput command s input (Limit Number) text = (length input ≤ longest) × IsTooLarge input × (text ≡ limit_line Number)
 IsOutput command s input (Limit Nesting) text = (length input ≤ longest) × IsTooNested input × (text ≡ limit_line Nesting)
 IsOutput command s input (Limit TermSize) text =
-    (length input ≤ longest) × ((place : ℕ) × HasTheoryFault command s input place checks.term_size) × (text ≡ limit_line TermSize)
+    (length input ≤ longest) × ((place : ℕ) × HasTheoryFault command input place checks.term_size) × (text ≡ limit_line TermSize)
 IsOutput command s input Usage text = ⊥
 IsOutput command s input ReadFault text = ⊥
 IsOutput command s input (WriteFault written) text = ⊥
