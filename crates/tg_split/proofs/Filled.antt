@@ -127,7 +127,7 @@ module _ (th : Theory) where
           (next_place pre (taken s v) n (length (holes s)) place (typed_length th (taken s v) (holes s) (taken_typed s v h.0))) in
           λ i. value.more (first i) (rest i)
 
-which : (m n : ℕ) → (m < n) ⊎ (n ≤ m)
+pub which : (m n : ℕ) → (m < n) ⊎ (n ≤ m)
 which m zero = inr (omega arith)
 which zero (suc n) = inl (omega arith)
 which (suc m) (suc n) = elim (which m n) [ inl h ↦ inl (omega (arith, h)) | inr h ↦ inr (omega (arith, h)) ]

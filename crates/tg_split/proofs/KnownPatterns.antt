@@ -11,7 +11,7 @@ abbrev pub tree_type : Ty
 tree_type = applied 2 (tys [])
 
 abbrev count_at : ℕ → ℕ
-count_at k = length (of_type sorting k tree_type)
+count_at k = length (of_type sorting.datatypes k tree_type)
 
 -- one more than the square of the count before: no tree has depth 0
 known_counts : (count_at 0 ≡ 0) × (count_at 1 ≡ 1) × (count_at 2 ≡ 2) × (count_at 3 ≡ 5) × (count_at 4 ≡ 26) × (count_at 5 ≡ 677)
@@ -21,12 +21,12 @@ abbrev leaf : Shape
 leaf = node 4 none
 
 -- constructors in their order
-known_trees : of_type sorting 2 tree_type ≡ node 3 (more leaf (more (hole nat) (more leaf none))) ∷ leaf ∷ []
+known_trees : of_type sorting.datatypes 2 tree_type ≡ node 3 (more leaf (more (hole nat) (more leaf none))) ∷ leaf ∷ []
 known_trees = refl
 
 -- a natural and a truth value have no depth, and a type that isn't closed has no value
-known_holes : (of_type sorting 0 nat ≡ hole nat ∷ []) × (of_type sorting 3 bool ≡ hole bool ∷ []) × (of_type sorting 3 (parameter 1) ≡ [])
-    × (of_type sorting 3 (meta 1) ≡ []) × (of_type sorting 3 (applied 0 (tys [])) ≡ []) × (of_type sorting 3 (applied 9 (tys [])) ≡ [])
+known_holes : (of_type sorting.datatypes 0 nat ≡ hole nat ∷ []) × (of_type sorting.datatypes 3 bool ≡ hole bool ∷ []) × (of_type sorting.datatypes 3 (parameter 1) ≡ [])
+    × (of_type sorting.datatypes 3 (meta 1) ≡ []) × (of_type sorting.datatypes 3 (applied 0 (tys [])) ≡ []) × (of_type sorting.datatypes 3 (applied 9 (tys [])) ≡ [])
 known_holes = (refl, refl, refl, refl, refl, refl)
 
 -- the first factor is the slowest, and an empty one makes an empty product

@@ -162,26 +162,26 @@ module _ (th : Theory) where
   FitsIt v s = Fits s v
 
   arguments_there : (us : List Ty) (o : Owned) (x : Datatype) (j : ℕ) → numbered th.datatypes o.datatype ≡ Some x
-      → slice_get x.constructors j ≡ Some o.constructor → slice_get (arguments_at th o.datatype us) j ≡ Some (map (instance us) o.constructor.arguments)
+      → slice_get x.constructors j ≡ Some o.constructor → slice_get (arguments_at th.datatypes o.datatype us) j ≡ Some (map (instance us) o.constructor.arguments)
   arguments_there us o x j is placed =
       let at : Constructor → List Ty = λ (c : Constructor). map (instance us) c.arguments in
       ap (λ (q : Option Datatype). slice_get (option_map_or (λ (y : Datatype). map at y.constructors) q []) j) is
       ∙ (slice_get-map at x.constructors j ∙ ap (option_map at) placed)
 
-  module _ (k : ℕ) (below : (t : Ty) (v : Value) → HasType th v t → Covers (depth v ≤ k) (FitsIt v) (of_type th k t)) where
+  module _ (k : ℕ) (below : (t : Ty) (v : Value) → HasType th v t → Covers (depth v ≤ k) (FitsIt v) (of_type th.datatypes k t)) where
     cover_made : (c : ℕ) (vs : Values) (o : Owned) (us : List Ty) → constructor_at th c ≡ Some o
         → HaveTypes th vs (map (instance us) o.constructor.arguments)
-        → Covers (depth (made c vs) ≤ suc k) (FitsIt (made c vs)) (of_constructors (of_type th k) (first_constructor th.datatypes o.datatype) (arguments_at th o.datatype us))
+        → Covers (depth (made c vs) ≤ suc k) (FitsIt (made c vs)) (of_constructors (of_type th.datatypes k) (first_constructor th.datatypes o.datatype) (arguments_at th.datatypes o.datatype us))
     cover_made c vs o us is typed =
         let place = (numbers_are_places th c o).0 is in
         let ts : List Ty = map (instance us) o.constructor.arguments in
-        let lows = cover_products (of_type th k) Typed (Low k) (λ t v. either (depth v) k) below ts vs (typed_all ts vs typed) in
-        let deep = covers_as (depth (made c vs) ≤ suc k) (AllHave (Low k) ts vs) (λ ss. AllFit ss vs) (products (of_type th k) ts)
+        let lows = cover_products (of_type th.datatypes k) Typed (Low k) (λ t v. either (depth v) k) below ts vs (typed_all ts vs typed) in
+        let deep = covers_as (depth (made c vs) ≤ suc k) (AllHave (Low k) ts vs) (λ ss. AllFit ss vs) (products (of_type th.datatypes k) ts)
         (λ low. all_low k ts vs typed (omega (arith, low))) (λ all. let low = deepest_low k ts vs all in omega (arith, low)) lows in
-        cover_constructors (of_type th k) c vs (depth (made c vs) ≤ suc k) (first_constructor th.datatypes o.datatype) place.0 (arguments_at th o.datatype us) ts
+        cover_constructors (of_type th.datatypes k) c vs (depth (made c vs) ≤ suc k) (first_constructor th.datatypes o.datatype) place.0 (arguments_at th.datatypes o.datatype us) ts
         (arguments_there us o place.2.0 place.0 place.2.1 place.2.2) place.1 deep
 
-  pub cover : (k : ℕ) (t : Ty) (v : Value) → HasType th v t → Covers (depth v ≤ k) (FitsIt v) (of_type th k t)
+  pub cover : (k : ℕ) (t : Ty) (v : Value) → HasType th v t → Covers (depth v ≤ k) (FitsIt v) (of_type th.datatypes k t)
   cover k nat (number n) h = (λ low. inl (refl, tt), λ high. absurd (high (omega arith)))
   cover k nat (boolean b) h = cc h
   cover k nat (made c vs) (o, is, (us, e, typed)) = cc e
@@ -201,6 +201,6 @@ module _ (th : Theory) where
   cover (suc k) (applied d ts) (boolean b) h = cc h
   cover (suc k) (applied d ts) (made c vs) (o, is, (us, e, typed)) =
       let made_so = subst (λ (l : List Ty). Covers (depth (made c vs) ≤ suc k) (FitsIt (made c vs))
-      (of_constructors (of_type th k) (first_constructor th.datatypes o.datatype) (arguments_at th o.datatype l))) (sym (elements-tys us))
+      (of_constructors (of_type th.datatypes k) (first_constructor th.datatypes o.datatype) (arguments_at th.datatypes o.datatype l))) (sym (elements-tys us))
       (cover_made k (cover k) c vs o us is typed) in
-      subst (λ (t : Ty). Covers (depth (made c vs) ≤ suc k) (FitsIt (made c vs)) (of_type th (suc k) t)) (sym e) made_so
+      subst (λ (t : Ty). Covers (depth (made c vs) ≤ suc k) (FitsIt (made c vs)) (of_type th.datatypes (suc k) t)) (sym e) made_so

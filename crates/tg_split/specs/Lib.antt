@@ -1,3 +1,5 @@
 pub mod Shapes
 pub mod Patterns
 pub mod Laws
+pub mod Scopes
+pub mod Sizes

@@ -39,7 +39,7 @@ abbrev pub Input : Type 0
 Input = ℕ × Ty
 
 abbrev pub of_input : Theory → Input → List Shape
-of_input th p = of_type th p.0 p.1
+of_input th p = of_type th.datatypes p.0 p.1
 
 -- each input to a depth of its own
 abbrev pub patterns_at : Theory → List Input → List Pattern

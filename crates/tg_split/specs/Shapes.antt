@@ -2,7 +2,7 @@
 use Rattle.std.specs.Prelude.{ℕ, zero, suc, List, [], ◌∷◌, ◌++◌, map}
 use Rattle.std.specs.Option.{option_map_or}
 use Rattle.tg_model.specs.Types.{Ty, nat, bool, parameter, meta, applied, elements}
-use Rattle.tg_model.specs.Theory.{Theory, Datatype, Constructor, first_constructor, numbered, instance}
+use Rattle.tg_model.specs.Theory.{Datatype, Constructor, first_constructor, numbered, instance}
 
 mutual
   -- `hole t` stands for each value of type `t`
@@ -32,15 +32,15 @@ module _ (shapes : Ty → List Shape) where
   of_constructors c (ts ∷ rest) = map (node c) (products shapes ts) ++ of_constructors (suc c) rest
 
 -- the arguments' types of each constructor of datatype `d` at `us`, in order
-abbrev pub arguments_at : Theory → ℕ → List Ty → List (List Ty)
-arguments_at th d us =
-    option_map_or (λ (x : Datatype). map (λ (c : Constructor). map (instance us) c.arguments) x.constructors) (numbered th.datatypes d) []
+abbrev pub arguments_at : List Datatype → ℕ → List Ty → List (List Ty)
+arguments_at ds d us =
+    option_map_or (λ (x : Datatype). map (λ (c : Constructor). map (instance us) c.arguments) x.constructors) (numbered ds d) []
 
 -- the shapes of a type to depth `k`
-abbrev pub of_type : Theory → ℕ → Ty → List Shape
-of_type th k nat = hole nat ∷ []
-of_type th k bool = hole bool ∷ []
-of_type th k (parameter n) = []
-of_type th k (meta n) = []
-of_type th zero (applied d ts) = []
-of_type th (suc k) (applied d ts) = of_constructors (of_type th k) (first_constructor th.datatypes d) (arguments_at th d (elements ts))
+abbrev pub of_type : List Datatype → ℕ → Ty → List Shape
+of_type ds k nat = hole nat ∷ []
+of_type ds k bool = hole bool ∷ []
+of_type ds k (parameter n) = []
+of_type ds k (meta n) = []
+of_type ds zero (applied d ts) = []
+of_type ds (suc k) (applied d ts) = of_constructors (of_type ds k) (first_constructor ds d) (arguments_at ds d (elements ts))

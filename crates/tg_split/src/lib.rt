@@ -3,6 +3,13 @@
 //! is the law.
 #![tactic(auto)]
 
+mod counting;
+mod recursion;
+mod scopes;
+mod sizes;
+
+pub use counting::count;
+
 ghost use Rattle.tg_split.specs.Laws.{CoversOnce, CoversEachOnce, PatternsAreLinear};
 
 /// An input of the program's types matches exactly one pattern of a depth where none of its values is
