@@ -32,7 +32,7 @@ use Rattle.tg_split.proofs.SizeLaws.{either_sizes, both_sizes, under_sizes}
 -- ---- constructors
 
 module _ (f : Ty → List Shape) where
-  made_after : (c : ℕ) (xs : List (List Ty)) (ts : List Ty)
+  pub made_after : (c : ℕ) (xs : List (List Ty)) (ts : List Ty)
       → of_constructors f c (xs ++ ts ∷ []) ≡ of_constructors f c xs ++ map (node (c + length xs)) (products f ts)
   made_after c [] ts = append-nil (map (node c) (products f ts)) ∙ ap (λ n. map (node n) (products f ts)) (let e : c ≡ c + 0 = omega arith in e)
   made_after c (us ∷ xs) ts =
@@ -148,10 +148,13 @@ at_one_depth : (th : Theory) (k : ℕ) (ts : List Ty) → products (of_type th.d
 at_one_depth th k [] = refl
 at_one_depth th k (t ∷ ts) = ap (product (of_type th.datatypes k t)) (at_one_depth th k ts)
 
+pub products_of_inputs : (th : Theory) (k : ℕ) → IsAccepted th
+    → products (of_type th.datatypes k) (map (instance (arguments Closed)) th.program.inputs) ≡ products (of_input th) (to_depth k th.program.inputs)
+products_of_inputs th k accepted =
+    ap (λ us. products (of_type th.datatypes k) (map (instance us) th.program.inputs)) arguments-Closed
+    ∙ ap (products (of_type th.datatypes k)) (list_closed_instance th [] th.program.inputs accepted.well_typed.inputs) ∙ at_one_depth th k th.program.inputs
+
 pub count_of_inputs : (th : Theory) (k : ℕ) (size : Size) → IsAccepted th
     → size ≡ size_of_lists (products (of_type th.datatypes k) (map (instance (arguments Closed)) th.program.inputs)) → count size ≡ counted (patterns th k)
 count_of_inputs th k size accepted e =
-    let closed = list_closed_instance th [] th.program.inputs accepted.well_typed.inputs in
-    ap count (e ∙ ap (λ us. size_of_lists (products (of_type th.datatypes k) (map (instance us) th.program.inputs))) arguments-Closed
-      ∙ ap (λ ts. size_of_lists (products (of_type th.datatypes k) ts)) closed ∙ ap size_of_lists (at_one_depth th k th.program.inputs))
-    ∙ count_of_lists (products (of_input th) (to_depth k th.program.inputs))
+    ap count (e ∙ ap size_of_lists (products_of_inputs th k accepted)) ∙ count_of_lists (products (of_input th) (to_depth k th.program.inputs))

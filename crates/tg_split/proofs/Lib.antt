@@ -6,3 +6,5 @@ pub mod KnownPatterns
 pub mod ScopeLaws
 pub mod SizeLaws
 pub mod CountLaws
+pub mod NumberLaws
+pub mod ListLaws

@@ -56,7 +56,7 @@ either_sizes xs ys =
 
 -- ---- products
 
-not_empty : (n x : ℕ) → is_empty (sized (suc n) x) ≡ false
+pub not_empty : (n x : ℕ) → is_empty (sized (suc n) x) ≡ false
 not_empty n x = elim (over_or_not (suc n) x) [
   | inl p ↦ ap is_empty (is_passed (suc n) x p)
   | inr p ↦ ap is_empty (is_within (suc n) x p.0 p.1) ∙ ne_eqb (suc n) 0 (λ e. absurd (omega (arith, e)))

@@ -90,7 +90,7 @@ fn size_of_constructors(
 /// datatype `d`, where it is known.
 #[cycle(size)]
 #[tactic(auto, using(crate::proofs::CountLaws::counting))]
-fn size_of_arguments(
+pub(crate) fn size_of_arguments(
     declared: &Declarations,
     d: DataId,
     own: Option<Size>,

@@ -4,11 +4,14 @@
 #![tactic(auto)]
 
 mod counting;
+mod listing;
+mod numbering;
 mod recursion;
 mod scopes;
 mod sizes;
 
 pub use counting::count;
+pub use listing::patterns;
 
 ghost use Rattle.tg_split.specs.Laws.{CoversOnce, CoversEachOnce, PatternsAreLinear};
 

@@ -44,7 +44,7 @@ impl Size {
     }
 
     /// Whether there is no shape.
-    fn is_empty(self) -> bool
+    pub(crate) fn is_empty(self) -> bool
         ensures { result ≡ is_empty self }
     {
         match self {
