@@ -1,6 +1,6 @@
 -- The size of the shapes of a type.
-use Rattle.std.proofs.Common.{ℕ, zero, suc, ◌≡◌, ◌<◌, ◌≤◌, ◌+◌, ◌-◌, Bool, true, false, ◌&&◌, List, [], ◌∷◌, ◌++◌, map, length, take, drop, Option, Some, None, refl, sym, ◌∙◌, ap, ap₂, subst, arith, max, if◌then◌else◌, append-nil, nat_eq, append_assoc, length-append}
-use Rattle.std.specs.Prelude.{slice_get, option_map, unwrap_or}
+use Rattle.std.proofs.Common.{ℕ, suc, ◌≡◌, ◌+◌, Bool, true, false, ◌&&◌, List, [], ◌∷◌, ◌++◌, map, length, Option, Some, refl, sym, ◌∙◌, ap, ap₂, subst, arith, max, if◌then◌else◌, append-nil, nat_eq, append_assoc, length-append}
+use Rattle.std.specs.Prelude.{slice_get, unwrap_or}
 use Rattle.std.specs.Option.{option_map_or}
 use Rattle.std.specs.Borrow.{Bor}
 use Rattle.std.proofs.lemmas.Bool.{eqb-true}
@@ -12,7 +12,6 @@ use Rattle.tg_model.specs.Theory.{Theory, Datatype, Constructor, instance, insta
 use Rattle.tg_model.proofs.ValueTyping.{elements-tys}
 use Rattle.tg_accept.specs.Faults.{is_parameter, are_parameters, is_itself}
 use Rattle.tg_types.specs.declared.types.Ty as declared
-use Rattle.tg_types.specs.Types.{ty}
 use Rattle.tg_declarations.specs.declared.definitions.ConDef.{ConDef}
 use Rattle.tg_declarations.specs.declared.definitions.DataDef.{DataDef}
 use Rattle.tg_declarations.specs.View.{constructor, datatype}
@@ -118,7 +117,7 @@ pub size_in_scope : (ds : List Datatype) (k : ℕ) (d : ℕ) (ts : Bor (List dec
 size_in_scope ds k d ts outer def cons size is same made =
     size_of_made ds k d (within ts.now outer.now) (datatype def) size is
     (subst (λ l. AreMade ds k l (map constructor def.cons) size) (arguments-Within ts outer)
-      (subst (λ l. AreMade ds k (arguments (Inside ts outer)) (map constructor l) size) same made))
+    (subst (λ l. AreMade ds k (arguments (Inside ts outer)) (map constructor l) size) same made))
 
 -- ---- the patterns of the inputs
 

@@ -10,7 +10,7 @@ use Rattle.tg_split.specs.Patterns.{patterns, patterns_at, to_depth}
 abbrev pub tree_type : Ty
 tree_type = applied 2 (tys [])
 
-abbrev count_at : ℕ → ℕ
+abbrev pub count_at : ℕ → ℕ
 count_at k = length (of_type sorting.datatypes k tree_type)
 
 -- one more than the square of the count before: no tree has depth 0

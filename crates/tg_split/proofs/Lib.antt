@@ -5,6 +5,8 @@ pub mod Covering
 pub mod KnownPatterns
 pub mod ScopeLaws
 pub mod SizeLaws
+pub mod Growth
+pub mod KnownCounts
 pub mod CountLaws
 pub mod NumberLaws
 pub mod ListLaws

@@ -1,8 +1,7 @@
 -- Variables in the places of shapes, numbered from the left.
-use Rattle.std.proofs.Common.{ℕ, zero, suc, ◌≡◌, ◌+◌, List, [], ◌∷◌, ◌++◌, map, length, refl, sym, ◌∙◌, ap, ap₂, arith, append_assoc, append-nil, length-append}
+use Rattle.std.proofs.Common.{ℕ, ◌≡◌, ◌+◌, List, [], ◌∷◌, ◌++◌, length, sym, ◌∙◌, ap, ap₂, arith, append_assoc, append-nil, length-append}
 use Rattle.tg_model.specs.Tree as tree
 use Rattle.tg_model.specs.Tree.{Tree, Trees, trees, con}
-use Rattle.tg_types.specs.declared.types.Ty.{Ty}
 use Rattle.tg_split.specs.Numbering.{marks, all_marks, named_from, all_named}
 
 -- one more term behind the others

@@ -1,6 +1,6 @@
 -- The root of a type in a scope.
 use Rattle.std.proofs.Common.{ℕ, zero, suc, ◌≡◌, List, [], ◌∷◌, map, Option, Some, None, refl, sym, ◌∙◌, ap}
-use Rattle.std.specs.Prelude.{slice_get, option_map, unwrap_or}
+use Rattle.std.specs.Prelude.{option_map, unwrap_or}
 use Rattle.std.specs.Borrow.{Bor}
 use Rattle.std.proofs.lemmas.Option.{slice_get-map}
 use Rattle.tg_model.specs.Types as model
@@ -12,7 +12,7 @@ use Rattle.tg_theory.proofs.Terms.{parameters_yes, parameters_no}
 use Rattle.tg_split.specs.declared.scopes.Scope.{Scope, fold-Scope}
 use Rattle.tg_split.specs.declared.scopes.Scope.TheFolds.{fold-roll-Scope}
 use Rattle.tg_split.specs.declared.scopes.Scope.TheOpen.{Scope-F}
-use Rattle.tg_split.specs.declared.scopes.Scope.TheVariants.{Closed, Within, rolls-Closed, rolls-Within}
+use Rattle.tg_split.specs.declared.scopes.Scope.TheVariants.{Closed, Within, rolls-Within}
 use Rattle.tg_split.specs.Scopes.{arguments, arguments-Closed, arguments-Within}
 
 -- how many scopes are round a type

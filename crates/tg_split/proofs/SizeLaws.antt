@@ -1,9 +1,9 @@
 -- The size of lists, of a product and of shapes under a constructor.
-use Rattle.std.proofs.Common.{ℕ, zero, suc, ◌≡◌, ◌<◌, ◌≤◌, ◌+◌, ◌*◌, ◌⊎◌, inl, inr, Bool, true, false, ◌||◌, max, List, [], ◌∷◌, ◌++◌, map, length, refl, sym, ◌∙◌, ap, ap₂, subst, arith, length-append, append-nil, nat_eq, nat_lt, lt-ltb, le-ltb, ne_eqb, zero-mul, mul-suc, mul-le-mul, mul-zero, suc-mul}
+use Rattle.std.proofs.Common.{ℕ, suc, ◌≡◌, ◌<◌, ◌≤◌, ◌+◌, ◌*◌, ◌⊎◌, inl, inr, Bool, true, false, ◌||◌, max, List, [], ◌∷◌, ◌++◌, map, length, refl, sym, ◌∙◌, ap, ap₂, arith, length-append, nat_lt, lt-ltb, le-ltb, ne_eqb, zero-mul, mul-suc, suc-mul}
 use Rattle.std.proofs.lemmas.List.{length-map}
 use Rattle.tg_split.proofs.Filled.{which}
 use Rattle.tg_model.proofs.Booleans.{or_left, or_right, if_true, if_false}
-use Rattle.tg_split.specs.Shapes.{Shape, Shapes, hole, node, none, more, product}
+use Rattle.tg_split.specs.Shapes.{Shape, Shapes, node, more, product}
 use Rattle.tg_split.specs.Sizes.{most, is_over, nodes, all_nodes, sized, size_of, size_of_lists, no_shape, is_empty, either, paired, both, under}
 use Rattle.tg_split.specs.declared.sizes.Size.{Size}
 use Rattle.tg_split.specs.declared.sizes.Size.TheVariants.{Passed, Within}
@@ -25,7 +25,7 @@ is_passed n x h = if_true Passed (Within n x) (is_over n x) (elim h [
   | inr q ↦ or_right (nat_lt 4096 n) (nat_lt 100000 x) (lt-ltb 100000 x q)
 ])
 
-is_within : (n x : ℕ) → n ≤ 4096 → x ≤ 100000 → sized n x ≡ Within n x
+pub is_within : (n x : ℕ) → n ≤ 4096 → x ≤ 100000 → sized n x ≡ Within n x
 is_within n x h k = if_false Passed (Within n x) (is_over n x) (ap₂ (λ a b. a || b) (le-ltb 4096 n h) (le-ltb 100000 x k))
 
 -- ---- lists
@@ -96,11 +96,11 @@ or_true false = refl
 both_empty : (a : Size) → both a no_shape ≡ no_shape
 both_empty a = if_true no_shape (paired a no_shape) (is_empty a || true) (or_true (is_empty a))
 
-product_empty : (xs : List Shape) → product xs [] ≡ []
+pub product_empty : (xs : List Shape) → product xs [] ≡ []
 product_empty [] = refl
 product_empty (x ∷ xs) = product_empty xs
 
-length_product : (xs : List Shape) (rests : List Shapes) → length (product xs rests) ≡ length xs * length rests
+pub length_product : (xs : List Shape) (rests : List Shapes) → length (product xs rests) ≡ length xs * length rests
 length_product [] rests = sym (zero-mul (length rests))
 length_product (x ∷ xs) rests =
     length-append (map (more x) rests) (product xs rests)
@@ -111,7 +111,7 @@ most_more : (x : Shape) (r : Shapes) (rests : List Shapes) → most all_nodes (m
 most_more x r [] = omega arith
 most_more x r (q ∷ rests) = let e = most_more x q rests in omega (arith, e)
 
-most_product : (x : Shape) (xs : List Shape) (r : Shapes) (rests : List Shapes)
+pub most_product : (x : Shape) (xs : List Shape) (r : Shapes) (rests : List Shapes)
     → most all_nodes (product (x ∷ xs) (r ∷ rests)) ≡ most nodes (x ∷ xs) + most all_nodes (r ∷ rests)
 most_product x [] r rests =
     most_append all_nodes (map (more x) (r ∷ rests)) [] ∙ (let e = most_more x r rests in omega (arith, e))
@@ -126,7 +126,7 @@ both_sizes (x ∷ xs) (r ∷ rests) =
     both_sized (length xs) (most nodes (x ∷ xs)) (length rests) (most all_nodes (r ∷ rests))
     ∙ ap₂ sized (sym (length_product (x ∷ xs) (r ∷ rests))) (sym (most_product x xs r rests))
 
-most_node : (c : ℕ) (ss : Shapes) (sss : List Shapes) → most nodes (map (node c) (ss ∷ sss)) ≡ most all_nodes (ss ∷ sss) + 1
+pub most_node : (c : ℕ) (ss : Shapes) (sss : List Shapes) → most nodes (map (node c) (ss ∷ sss)) ≡ most all_nodes (ss ∷ sss) + 1
 most_node c ss [] = omega arith
 most_node c ss (ts ∷ sss) = let e = most_node c ts sss in omega (arith, e)
 

@@ -1,5 +1,5 @@
 -- Patterns as the code makes them: rows of marked terms, and then their variables.
-use Rattle.std.specs.Prelude.{ℕ, suc, zero, ◌≡◌, List, [], ◌∷◌, ◌++◌, map, length}
+use Rattle.std.specs.Prelude.{ℕ, ◌≡◌, List, [], ◌∷◌, ◌++◌, map, length}
 use Rattle.tg_model.specs.Tree.{Tree, trees}
 use Rattle.tg_model.specs.Types as model
 use Rattle.tg_model.specs.Theory.{Datatype, Constructor, instance}

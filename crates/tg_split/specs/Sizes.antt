@@ -1,5 +1,5 @@
 -- How many shapes there are and how large, up to the limit.
-use Rattle.std.specs.Prelude.{ℕ, ◌≡◌, map, Bool, false, ◌||◌, ◌+◌, ◌*◌, max, nat_lt, nat_eq, List, [], ◌∷◌, length, if◌then◌else◌}
+use Rattle.std.specs.Prelude.{ℕ, ◌≡◌, map, Bool, true, false, ◌||◌, ◌+◌, ◌*◌, max, nat_lt, nat_eq, List, [], ◌∷◌, length, if◌then◌else◌}
 use Rattle.tg_term.specs.Measures.{nodes_of}
 use Rattle.tg_split.specs.Shapes.{Shape, Shapes, hole, node, none, more, of_constructors, of_type}
 use Rattle.tg_model.specs.Types.{Ty}
@@ -46,6 +46,10 @@ no_shape = Within 0 0
 abbrev pub count : Size → ℕ
 count Passed = 4097
 count (Within n x) = n
+
+abbrev pub is_passed : Size → Bool
+is_passed Passed = true
+is_passed (Within n x) = false
 
 abbrev pub is_empty : Size → Bool
 is_empty Passed = false

@@ -57,11 +57,22 @@ fn size_of_data(declared: &Declarations, d: DataId, ts: &[Ty], outer: &Scope, de
         return Size::none();
     };
     let own = if is_recursive(d, ts.len(), def.cons.as_slice()) {
-        Some(size_of_data(declared, d, ts, outer, below))
+        let own = size_of_data(declared, d, ts, outer, below);
+        if own.is_passed() {
+            return Size::Passed;
+        }
+        Some(own)
     } else {
         None
     };
-    size_of_constructors(declared, d, own, def.cons.as_slice(), &Scope::Within(&*ts, &*outer), below)
+    size_of_constructors(
+        declared,
+        d,
+        own,
+        def.cons.as_slice(),
+        &Scope::Within(&*ts, &*outer),
+        below,
+    )
 }
 
 /// The size of the shapes that constructors make.

@@ -10,10 +10,10 @@ mod recursion;
 mod scopes;
 mod sizes;
 
+ghost use Rattle.tg_split.specs.Laws.{CoversOnce, CoversEachOnce, PatternsAreLinear};
+
 pub use counting::count;
 pub use listing::patterns;
-
-ghost use Rattle.tg_split.specs.Laws.{CoversOnce, CoversEachOnce, PatternsAreLinear};
 
 /// An input of the program's types matches exactly one pattern of a depth where none of its values is
 /// deeper, and no pattern where one is; so too where each input has a depth of its own. Each variable of

@@ -98,7 +98,14 @@ fn shapes_of_data(
     };
     let scope = Scope::Within(&*ts, &*outer);
     let numbers = declared.constructors(d);
-    let shapes = shapes_of_constructors(alloc, declared, numbers, def.cons.as_slice(), &scope, below)?;
+    let shapes = shapes_of_constructors(
+        alloc,
+        declared,
+        numbers,
+        def.cons.as_slice(),
+        &scope,
+        below,
+    )?;
     Ok(shapes)
 }
 

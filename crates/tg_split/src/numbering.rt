@@ -30,7 +30,11 @@ fn number(alloc: Global, t: &Term, vars: &mut Items<Ty>) -> Result<Term, AllocEr
 /// The terms with their variables, numbered through all of them.
 #[cycle(number)]
 #[tactic(auto, using(crate::proofs::NumberLaws::numbering))]
-pub(crate) fn number_all(alloc: Global, ts: &[Term], vars: &mut Items<Ty>) -> Result<Items<Term>, AllocError>
+pub(crate) fn number_all(
+    alloc: Global,
+    ts: &[Term],
+    vars: &mut Items<Ty>,
+) -> Result<Items<Term>, AllocError>
     ensures terms { IfOk result (λ us. trees us ≡ all_named (length vars.old + 1) (trees ts.now)) }
     ensures types { OnOk result (vars.new ≡ vars.old ++ all_marks (trees ts.now)) }
 {

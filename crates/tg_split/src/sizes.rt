@@ -1,6 +1,6 @@
 //! How many shapes there are and how large, up to the limit.
 ghost use Rattle.std.specs.Prelude.{◌≡◌};
-ghost use Rattle.tg_split.specs.Sizes.{sized, is_empty, count, either, both, under, no_shape};
+ghost use Rattle.tg_split.specs.Sizes.{sized, is_empty, count, is_passed, either, both, under, no_shape};
 
 /// The most patterns.
 const MOST_PATTERNS: u64 = 4096;
@@ -41,6 +41,13 @@ impl Size {
             Size::Passed => MOST_PATTERNS + 1,
             Size::Within(count, _) => u64::from(count),
         }
+    }
+
+    /// Whether the limit is passed.
+    pub(crate) fn is_passed(self) -> bool
+        ensures { result ≡ is_passed self }
+    {
+        matches!(self, Size::Passed)
     }
 
     /// Whether there is no shape.

@@ -1,5 +1,4 @@
-use Rattle.std.proofs.Common.{ℕ, suc, ◌<◌, ◌≡◌, ◌≤◌, ◌+◌, ◌-◌, List, ◌∷◌, [], ◌++◌, map, drop, take, length, Some, refl, sym, ◌∙◌, ap, subst, arith}
-use Rattle.std.specs.Prelude.{slice_get}
+use Rattle.std.proofs.Common.{ℕ, suc, ◌<◌, ◌≡◌, ◌+◌, ◌-◌, List, ◌∷◌, [], ◌++◌, map, drop, take, length, refl, sym, ◌∙◌, ap, subst, arith}
 use Rattle.std.proofs.lemmas.List.{map-append}
 use Rattle.tg_model.specs.Theory.{instance, Constructor}
 use Rattle.tg_model.specs.Types as model
@@ -8,12 +7,13 @@ use Rattle.tg_declarations.specs.declared.definitions.ConDef.{ConDef}
 use Rattle.tg_declarations.specs.declared.definitions.DataDef.{DataDef}
 use Rattle.std.proofs.lemmas.Option.{slice_get_read}
 use Rattle.tg_types.specs.Types.{ty}
-use Rattle.tg_declarations.specs.View.{constructor, datatype}
+use Rattle.tg_declarations.specs.View.{constructor}
 use Rattle.tg_term.proofs.PartLaws.{drop_at, take_at}
-use Rattle.tg_split.specs.Scopes.{arguments, arguments-Within, within}
+use Rattle.tg_split.specs.Scopes.{arguments, within}
 use Rattle.tg_split.specs.Shapes.{of_type, products}
-use Rattle.tg_split.specs.Sizes.{size_of, size_of_lists, both, either, under, AreMade}
+use Rattle.tg_split.specs.Sizes.{size_of, size_of_lists, either, under, AreMade}
 use Rattle.tg_split.proofs.CountLaws.{one_more_argument, one_more_made, size_in_scope}
+use Rattle.tg_split.proofs.Growth.{passes}
 use Rattle.tg_split.proofs.counting.+size.Goals as goal
 
 pub size_of_arguments-loop-left-preserved : goal.size_of_arguments-loop-left-preserved
@@ -25,11 +25,12 @@ size_of_arguments-loop-left-preserved _ c =
     let inside : k < length c.args.ts.now = omega (arith, c.loop-left-test.true, c.loop-left.invariant.0) in
     let read = slice_get_read c.args.ts.now _ _ t refl inside c.index-ts-left.is in
     let next : suc k ≡ c.loop-left.left = omega (arith, c.loop-left-test.true) in
-    let rest = drop_at c.args.ts.now k t read ∙ ap (λ n. t ∷ drop n c.args.ts.now) next in
-    (omega (arith, inside),
+    let rest = drop_at c.args.ts.now k t read ∙ ap (λ n. t ∷ drop n c.args.ts.now) next in (
+      omega (arith, inside),
       c.both-size.ensures ∙ one_more_argument f (at t) (map (instance (arguments c.args.scope.now)) (map ty (drop c.loop-left.left c.args.ts.now)))
-      c.size_of_argument.result c.loop-left.size c.size_of_argument.ensures c.loop-left.invariant.1
-      ∙ ap (λ l. size_of_lists (products f (map (instance (arguments c.args.scope.now)) (map ty l)))) (sym rest))
+          c.size_of_argument.result c.loop-left.size c.size_of_argument.ensures c.loop-left.invariant.1
+          ∙ ap (λ l. size_of_lists (products f (map (instance (arguments c.args.scope.now)) (map ty l)))) (sym rest),
+    )
 
 pub size_of_constructors-loop-con-preserved : goal.size_of_constructors-loop-con-preserved
 size_of_constructors-loop-con-preserved _ c =
@@ -45,9 +46,9 @@ size_of_constructors-loop-con-preserved _ c =
     let size = c.size_of_arguments-size.ensures ∙ ap (λ l. size_of_lists (products (of_type ds c.args.depth) (map (instance us) (map ty l)))) c.as_slice.ensures in
     let next : suc c.loop-con.con-index ≡ c.loop-con.con-index + 1 = omega arith in
     λ n. c.either-total.ensures ∙ ap (either c.loop-con.total) c.under.ensures
-        ∙ subst (λ (l : List Constructor). AreMade ds c.args.depth us l (either c.loop-con.total (under c.size_of_arguments-size.result)))
-        (all ∙ ap (λ m. map constructor (take m cons)) next)
-        (one_more_made ds c.args.depth us so_far (constructor con) c.loop-con.total c.size_of_arguments-size.result c.loop-con.invariant size) n
+    ∙ subst (λ (l : List Constructor). AreMade ds c.args.depth us l (either c.loop-con.total (under c.size_of_arguments-size.result)))
+    (all ∙ ap (λ m. map constructor (take m cons)) next)
+    (one_more_made ds c.args.depth us so_far (constructor con) c.loop-con.total c.size_of_arguments-size.result c.loop-con.invariant size) n
 
 pub size_of_data-returns : goal.size_of_data-returns
 size_of_data-returns _ c =
@@ -58,3 +59,11 @@ size_of_data-returns _ c =
     size_in_scope ds c.in-Some.below c.args.d c.args.ts c.args.outer def c.as_slice-2.result.now c.size_of_constructors.result (sym c.in-Some-data_def.ensures)
     c.as_slice-2.ensures c.size_of_constructors.ensures
     ∙ ap (λ k. size_of (of_type ds k (model.applied c.args.d (model.tys us)))) (sym depth)
+
+pub size_of_data-returns-then-is_passed : goal.size_of_data-returns-then-is_passed
+size_of_data-returns-then-is_passed _ c =
+    let ds = c.args.declared.now.datatypes in
+    let t : model.Ty = model.applied c.args.d (model.tys (within c.args.ts.now c.args.outer.now)) in
+    let depth : c.args.depth ≡ suc c.in-Some.below = omega (arith, c.in-Some.ensures) in
+    passes ds c.in-Some.below t c.size_of_data-own.result (sym c.if-is_passed.ensures) c.size_of_data-own.ensures
+    ∙ ap (λ k. size_of (of_type ds k t)) (sym depth)

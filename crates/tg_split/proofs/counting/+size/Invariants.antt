@@ -1,4 +1,4 @@
-use Rattle.std.proofs.Common.{ℕ, ◌≡◌, ◌+◌, ◌*◌, ◌≤◌, map, take, drop, length}
+use Rattle.std.proofs.Common.{◌≡◌, ◌+◌, ◌*◌, ◌≤◌, map, take, drop, length}
 use Rattle.tg_model.specs.Theory.{instance}
 use Rattle.tg_declarations.specs.View.{constructor}
 use Rattle.tg_types.specs.Types.{ty}

@@ -1,4 +1,4 @@
-use Rattle.std.proofs.Common.{ℕ, ◌≡◌, List, map, sym, ◌∙◌, ap, ap₂}
+use Rattle.std.proofs.Common.{◌≡◌, List, map, ◌∙◌, ap, ap₂}
 use Rattle.tg_model.specs.Types as model
 use Rattle.tg_model.specs.Theory.{Theory, Datatype, Program, instance}
 use Rattle.tg_types.specs.Types.{ty}
@@ -16,4 +16,4 @@ returns c =
     c.count.ensures
     ∙ count_of_inputs c.args.th.now c.args.depth c.size_of_arguments-size.result c.accepted.ensures.accepted
     (c.size_of_arguments-size.ensures
-      ∙ ap₂ (λ (ds : List Datatype) (ts : List model.Ty). size_of_lists (products (of_type ds c.args.depth) (map (instance (arguments Closed)) ts))) datatypes inputs)
+    ∙ ap₂ (λ (ds : List Datatype) (ts : List model.Ty). size_of_lists (products (of_type ds c.args.depth) (map (instance (arguments Closed)) ts))) datatypes inputs)

@@ -1,21 +1,19 @@
-use Rattle.std.proofs.Common.{ℕ, suc, ◌≡◌, ◌<◌, ◌≤◌, ◌+◌, ◌-◌, List, ◌∷◌, [], ◌++◌, map, take, length, Some, refl, sym, ◌∙◌, ap, ap₂, subst, arith}
+use Rattle.std.proofs.Common.{suc, ◌≡◌, ◌+◌, List, ◌∷◌, [], ◌++◌, map, take, length, refl, sym, ◌∙◌, ap, ap₂, arith}
 use Rattle.std.specs.Prelude.{slice_get}
 use Rattle.std.proofs.lemmas.Option.{slice_get_read}
-use Rattle.std.proofs.lemmas.List.{map-append, length-map, take_all}
-use Rattle.tg_model.specs.Tree.{Tree, trees, con}
+use Rattle.std.proofs.lemmas.List.{map-append}
 use Rattle.tg_model.specs.Types as model
 use Rattle.tg_model.specs.Theory.{instance, Constructor}
 use Rattle.tg_types.specs.declared.types.Ty as declared
 use Rattle.tg_types.specs.Types.{ty}
 use Rattle.tg_declarations.specs.declared.definitions.ConDef.{ConDef}
 use Rattle.tg_declarations.specs.declared.definitions.DataDef.{DataDef}
-use Rattle.tg_declarations.specs.View.{constructor, datatype}
 use Rattle.tg_term.proofs.PartLaws.{take_at}
 use Rattle.tg_split.specs.Scopes.{arguments, within}
-use Rattle.tg_split.specs.Shapes.{of_type, of_constructors, products}
+use Rattle.tg_split.specs.Shapes.{of_type, products}
 use Rattle.tg_split.specs.Numbering.{marked, all_marked}
-use Rattle.tg_split.specs.Listing.{extended, AreShapes}
-use Rattle.tg_split.proofs.ListLaws.{rows_after, shapes_after, number_there, shapes_in_scope, constructor_there}
+use Rattle.tg_split.specs.Listing.{extended}
+use Rattle.tg_split.proofs.ListLaws.{rows_after, number_there, shapes_in_scope, constructor_there}
 use Rattle.tg_split.proofs.listing.+shapes.Goals as goal
 
 pub rows_of-loop-t-preserved : goal.rows_of-loop-t-preserved

@@ -30,4 +30,4 @@ abbrev pub invariant-shapes_of_constructors-loop-place : goal.invariant-shapes_o
 invariant-shapes_of_constructors-loop-place l =
     (c : ℕ) → l.numbers ≡ numbers_from c (length l.cons)
     → l.shapes.items ≡ map marked (of_constructors (of_type l.declared.datatypes l.depth) c
-        (map (λ (x : Constructor). map (instance (arguments l.scope)) x.arguments) (map constructor (take l.place l.cons))))
+    (map (λ (x : Constructor). map (instance (arguments l.scope)) x.arguments) (map constructor (take l.place l.cons))))

@@ -1,4 +1,4 @@
-use Rattle.std.proofs.Common.{arith, ◌≡◌, ◌++◌, ◌∷◌, [], List, ◌∙◌, sym, ap, append-nil}
+use Rattle.std.proofs.Common.{arith, ◌++◌, ◌∷◌, [], ◌∙◌, sym, ap, append-nil}
 use Rattle.std.proofs.lemmas.Grind.{common_steps}
 use Rattle.tg_split.specs.Listing.{extended, each_extended}
 use Rattle.tg_split.proofs.ListLaws.{extended_both}

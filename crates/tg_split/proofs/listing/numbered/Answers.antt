@@ -1,4 +1,4 @@
-use Rattle.std.proofs.Common.{ℕ, suc, ◌≡◌, ◌+◌, List, ◌∷◌, [], ◌++◌, map, take, refl, sym, ◌∙◌, ap, ap₂, arith}
+use Rattle.std.proofs.Common.{suc, ◌≡◌, ◌+◌, List, ◌∷◌, [], ◌++◌, map, take, refl, sym, ◌∙◌, ap, ap₂, arith}
 use Rattle.std.proofs.lemmas.Option.{slice_get_read}
 use Rattle.std.proofs.lemmas.List.{map-append}
 use Rattle.tg_model.specs.Tree.{Tree}

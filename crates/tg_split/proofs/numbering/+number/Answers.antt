@@ -1,8 +1,6 @@
-use Rattle.std.proofs.Common.{ℕ, suc, ◌≡◌, ◌+◌, List, ◌∷◌, [], ◌++◌, take, length, Some, refl, sym, ◌∙◌, ap, subst, arith, append_assoc, length-append, get_or, ◌<◌}
-use Rattle.std.specs.Prelude.{slice_get}
+use Rattle.std.proofs.Common.{ℕ, suc, ◌≡◌, ◌+◌, List, ◌∷◌, [], ◌++◌, take, length, refl, sym, ◌∙◌, ap, arith, append_assoc, length-append, get_or}
 use Rattle.std.proofs.lemmas.Option.{slice_get_read}
 use Rattle.tg_model.specs.Tree.{Tree, trees}
-use Rattle.tg_types.specs.declared.types.Ty.{Ty}
 use Rattle.tg_term.specs.Measures.{height}
 use Rattle.tg_term.proofs.ListHeights.{height_at}
 use Rattle.tg_term.proofs.PartLaws.{take_at}
@@ -23,10 +21,11 @@ number_all-loop-t-preserved _ c =
     let held = ap length c.loop-t.invariant.1 in
     let place : length c.loop-t.vars + 1 ≡ n + length (all_marks (trees so_far)) = omega (arith, count, held) in
     let named = c.in_ok-number.ensures.term ∙ ap (λ m. named_from m t) place in
-    let terms = ap trees c.in_ok-push.ensures.ok ∙ named_after n so_far t c.loop-t.out c.in_ok-number.field-0 c.loop-t.invariant.0 named in
-    (terms ∙ ap (λ l. all_named n (trees l)) step,
+    let terms = ap trees c.in_ok-push.ensures.ok ∙ named_after n so_far t c.loop-t.out c.in_ok-number.field-0 c.loop-t.invariant.0 named in (
+      terms ∙ ap (λ l. all_named n (trees l)) step,
       c.in_ok-number.ensures.types ∙ ap (λ l. l ++ marks t) c.loop-t.invariant.1 ∙ append_assoc c.args.vars.now (all_marks (trees so_far)) (marks t)
-      ∙ ap (λ l. c.args.vars.now ++ l) (sym (marks_after so_far t) ∙ ap (λ l. all_marks (trees l)) step))
+          ∙ ap (λ l. c.args.vars.now ++ l) (sym (marks_after so_far t) ∙ ap (λ l. all_marks (trees l)) step),
+    )
 
 pub number_all-number-requires : goal.number_all-number-requires
 number_all-number-requires _ c =
