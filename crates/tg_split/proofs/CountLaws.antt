@@ -4,6 +4,7 @@ use Rattle.std.specs.Prelude.{slice_get, unwrap_or}
 use Rattle.std.specs.Option.{option_map_or}
 use Rattle.std.specs.Borrow.{Bor}
 use Rattle.std.proofs.lemmas.Bool.{eqb-true}
+use Rattle.std.proofs.lemmas.Option.{none-some}
 use Rattle.std.proofs.lemmas.List.{length-map, map-append}
 use Rattle.tg_model.proofs.Booleans.{and_left, and_right}
 use Rattle.tg_model.specs.Types as model
@@ -157,3 +158,7 @@ pub count_of_inputs : (th : Theory) (k : ℕ) (size : Size) → IsAccepted th
     → size ≡ size_of_lists (products (of_type th.datatypes k) (map (instance (arguments Closed)) th.program.inputs)) → count size ≡ counted (patterns th k)
 count_of_inputs th k size accepted e =
     ap count (e ∙ ap size_of_lists (products_of_inputs th k accepted)) ∙ count_of_lists (products (of_input th) (to_depth k th.program.inputs))
+
+pub past_end : {A : Type 0} (xs : List A) (x : A) → slice_get xs (length xs) ≡ Some x → ⊥
+past_end [] x e = none-some x e
+past_end (y ∷ xs) x e = past_end xs x e

@@ -6,6 +6,7 @@ pub mod KnownPatterns
 pub mod ScopeLaws
 pub mod SizeLaws
 pub mod Growth
+pub mod SameTypes
 pub mod KnownCounts
 pub mod CountLaws
 pub mod NumberLaws

@@ -10,7 +10,7 @@ ghost use Rattle.tg_split.specs.Shapes.{of_type, products};
 ghost use Rattle.tg_split.specs.Sizes.{counted, size_of, size_of_lists, AreMade};
 ghost use Rattle.tg_types.specs.Types.{ty, types};
 
-use crate::recursion::{is_itself, is_recursive};
+use crate::recursion::{is_itself, is_recursive, same_type};
 use crate::scopes::{Root, Scope, root_of};
 use crate::sizes::Size;
 use sqlite_items::at;
@@ -19,7 +19,10 @@ use tg_theory::Theory;
 use tg_types::{DataId, Ty};
 
 /// How many patterns the inputs of the theory's program have to a depth, or 4,097 where the limit is passed: where
-/// they are more than 4,096, or the terms of one of them have together more than 100,000 nodes.
+/// they are more than 4,096, or the terms of one of them have together more than 100,000 nodes. It takes no memory.
+/// A recursive datatype is counted once for each depth, up to that at which it passes the limit, and equal arguments
+/// side by side are counted once. What else stands in several places is counted in each, for nothing is kept: where
+/// datatypes name one another twice, apart, in a chain, the steps double with each of them, down to depth 0.
 #[tactic(auto, using(crate::proofs::CountLaws::counting))]
 pub fn count(th: &Theory, depth: u8) -> u64
     ensures { result ≡ counted (patterns th.now depth) }
@@ -113,10 +116,14 @@ pub(crate) fn size_of_arguments(
     ensures { result ≡ size_of_lists (products (of_type declared.now.datatypes depth) (map (instance (arguments scope.now)) (map ty ts.now))) }
 {
     let mut size = Size::Within(1, 0);
+    let mut part = size;
     let mut left = ts.len();
     while left > 0 {
         left -= 1;
-        size = size_of_argument(declared, d, own, &ts[left], scope, depth).both(size);
+        if left + 1 == ts.len() || !same_type(&ts[left], &ts[left + 1]) {
+            part = size_of_argument(declared, d, own, &ts[left], scope, depth);
+        }
+        size = part.both(size);
     }
     size
 }

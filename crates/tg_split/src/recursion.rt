@@ -1,5 +1,5 @@
 //! Where a datatype stands among the arguments of its constructors.
-ghost use Rattle.std.specs.Prelude.{◌≡◌, ◌&&◌, nat_eq, length};
+ghost use Rattle.std.specs.Prelude.{◌≡◌, true, ◌&&◌, nat_eq, length};
 ghost use Rattle.tg_accept.specs.Faults.{is_parameter, are_parameters, is_itself};
 ghost use Rattle.tg_model.specs.Types.{elements};
 ghost use Rattle.tg_types.specs.Types.{ty, types};
@@ -67,4 +67,34 @@ fn is_parameter(t: &Ty, number: usize) -> bool
         Ty::Param(n) => *n as usize == number,
         _ => false,
     }
+}
+
+/// Whether two types are equal.
+#[cycle(same)]
+#[tactic(auto, using(crate::proofs::SameTypes::same))]
+pub(crate) fn same_type(a: &Ty, b: &Ty) -> bool
+    ensures { result ≡ true → ty a.now ≡ ty b.now }
+{
+    match (a, b) {
+        (Ty::Nat, Ty::Nat) | (Ty::Bool, Ty::Bool) => true,
+        (Ty::Param(m), Ty::Param(n)) => *m == *n,
+        (Ty::App(d, ts), Ty::App(e, us)) => *d == *e && same_types(ts.as_slice(), us.as_slice()),
+        _ => false,
+    }
+}
+
+#[cycle(same)]
+#[tactic(auto, using(crate::proofs::SameTypes::same))]
+fn same_types(ts: &[Ty], us: &[Ty]) -> bool
+    ensures { result ≡ true → types ts.now ≡ types us.now }
+{
+    if ts.len() != us.len() {
+        return false;
+    }
+    for (i, t) in ts.iter().enumerate() {
+        if !same_type(t, &us[i]) {
+            return false;
+        }
+    }
+    true
 }
