@@ -1,5 +1,5 @@
 //! Patterns of a theory's inputs: shapes of constructors to a depth, and variables of naturals and truth
-//! values. The list of patterns is defined in `specs/`. The function here has no code, and its contract
+//! values. The list of patterns is defined in `specs/`. The function `coverage` has no code, and its contract
 //! is the law.
 #![tactic(auto)]
 
