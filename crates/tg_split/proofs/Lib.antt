@@ -1,0 +1,13 @@
+pub mod Listed
+pub mod ShapeCoverage
+pub mod Filled
+pub mod Covering
+pub mod KnownPatterns
+pub mod ScopeLaws
+pub mod SizeLaws
+pub mod Growth
+pub mod SameTypes
+pub mod KnownCounts
+pub mod CountLaws
+pub mod NumberLaws
+pub mod ListLaws

@@ -1,0 +1,7 @@
+pub mod Shapes
+pub mod Patterns
+pub mod Laws
+pub mod Scopes
+pub mod Sizes
+pub mod Numbering
+pub mod Listing

@@ -1,0 +1,26 @@
+//! Patterns of a theory's inputs: shapes of constructors to a depth, and variables of naturals and truth
+//! values. The list of patterns is defined in `specs/`. The function `coverage` has no code, and its contract
+//! is the law.
+#![tactic(auto)]
+
+mod counting;
+mod listing;
+mod numbering;
+mod recursion;
+mod scopes;
+mod sizes;
+
+ghost use Rattle.tg_split.specs.Laws.{CoversOnce, CoversEachOnce, PatternsAreLinear};
+
+pub use counting::count;
+pub use listing::patterns;
+
+/// An input of the program's types matches exactly one pattern of a depth where none of its values is
+/// deeper, and no pattern where one is; so too where each input has a depth of its own. Each variable of
+/// a pattern stands in it, and other values of the variables give other inputs. (The depth-bounded
+/// values of SmallCheck.)
+pub fn coverage()
+    ensures once { CoversOnce }
+    ensures each_once { CoversEachOnce }
+    ensures linear { PatternsAreLinear }
+{}
