@@ -1,5 +1,5 @@
 -- A theory of the form is accepted.
-use Rattle.std.proofs.Common.{ℕ, ◌≡◌, ◌≤◌, ◌↔◌, Bool, true, false, List, [], ◌∷◌, length, map, Option, Some, None, refl, sym, ◌∙◌, ap, subst, inl, inr, arith}
+use Rattle.std.proofs.Common.{ℕ, ◌≡◌, Bool, true, false, List, [], ◌∷◌, map, Option, Some, None, refl, sym, ◌∙◌, ap, subst, arith}
 use Rattle.std.specs.Option.{option_map_or}
 use Rattle.std.specs.Str.{bytes_eq}
 use Rattle.std.proofs.lemmas.Slice.Eq.{bytes_eq-Decides}
@@ -16,9 +16,9 @@ use Rattle.tg_accept.specs.Typings.{HasTyping, HasOneTyping}
 use Rattle.tg_grammar.specs.declared.types.RawTy.TheVariants as types
 use Rattle.tg_grammar.specs.declared.terms.RawTerm.TheVariants as terms
 use Rattle.tg_infer.specs.View.{raw_type, raw_term, raw_declaration, raw_type-Nat, raw_term-Num, raw_term-Use, raw_term-Op}
-use Rattle.tg_model.specs.Theory.{Theory, Program}
+use Rattle.tg_model.specs.Theory.{Program}
 use Rattle.tg_model.specs.Tree.{Operator, implication, less, less_equal}
-use Rattle.tg_model.specs.TermTyping.{Typing, Typings, leaf, compound, instanced, branching, binding, none, more, type_of, types_of, IsOperation}
+use Rattle.tg_model.specs.TermTyping.{Typing, Typings, leaf, compound, instanced, branching, binding, none, more, types_of, IsOperation}
 use Rattle.tg_model.specs.Types.{Ty, nat, bool}
 use Rattle.tg_term.specs.Operators.{operator}
 use Rattle.tg_cmd.specs.declared.form.Relation.{Relation}
@@ -56,11 +56,12 @@ body_is p x c n k =
   where
     first : raw_term (compared c (named x) (terms.Num n)) ≡ comparison c (variable x) (raw.number n)
     first = raw_term-Op _ _ ∙ (λ i. raw.op (operator_is c i) (raw.more (raw_term-Use x [] i) (raw.more (raw_term-Num n i) raw.none)))
+
     second : raw_term (compared k (named x) (called p x)) ≡ comparison k (variable x) (raw.word p (raw.more (variable x) raw.none))
     second =
         raw_term-Op _ _
         ∙ (λ i. raw.op (operator_is k i) (raw.more (raw_term-Use x [] i)
-            (raw.more ((raw_term-Use p (terms.Use x [] ∷ []) ∙ (λ j. raw.word p (raw.more (raw_term-Use x [] j) raw.none))) i) raw.none)))
+        (raw.more ((raw_term-Use p (terms.Use x [] ∷ []) ∙ (λ j. raw.word p (raw.more (raw_term-Use x [] j) raw.none))) i) raw.none)))
 
 -- ---- what it means
 
@@ -168,9 +169,9 @@ only_whole p c n k (compound t ds) h =
     let second = only_comparison p k (resolved.free 1) (resolved.put (resolved.more (resolved.free 1) resolved.none)) (leaf nat) (compound nat (more (leaf nat) none))
     (only_variable p) (only_call p) in
     λ i. compound (h.0.1 i) (only_two p (resolved_comparison c (resolved.free 1) (resolved.literal n))
-        (resolved_comparison k (resolved.free 1) (resolved.put (resolved.more (resolved.free 1) resolved.none)))
-        (compound bool (more (leaf nat) (more (leaf nat) none)))
-        (compound bool (more (leaf nat) (more (compound nat (more (leaf nat) none)) none))) first second ds h.1 i)
+    (resolved_comparison k (resolved.free 1) (resolved.put (resolved.more (resolved.free 1) resolved.none)))
+    (compound bool (more (leaf nat) (more (leaf nat) none)))
+    (compound bool (more (leaf nat) (more (compound nat (more (leaf nat) none)) none))) first second ds h.1 i)
 only_whole p c n k (branching us t d arms) h = absurd h
 only_whole p c n k (binding u t d e) h = absurd h
 
@@ -231,6 +232,8 @@ form_accepted f h =
     let rest : IsWhole (after D (raw.specification (f.variable ∷ []) (body f.program f.variable f.constraint f.limit f.check)))
     × (theory f.name (made f) ≡ theory f.name (after D (raw.specification (f.variable ∷ []) (body f.program f.variable f.constraint f.limit f.check)))) =
     subst (λ o. IsWhole (option_map_or (λ t. with_specification D (whole_specification D t)) o D)
-    × (theory f.name (made f) ≡ theory f.name (option_map_or (λ t. with_specification D (whole_specification D t)) o D))) (sym is) (whole, refl) in
-    (theory f.name (made f), subst (λ ds. IsTheoryOf f.name nothing ds (theory f.name (made f))) (sym (declarations_are f))
-        (program_passes f.program, (specification_passes f h, rest)))
+    × (theory f.name (made f) ≡ theory f.name (option_map_or (λ t. with_specification D (whole_specification D t)) o D))) (sym is) (whole, refl) in (
+      theory f.name (made f),
+      subst (λ ds. IsTheoryOf f.name nothing ds (theory f.name (made f))) (sym (declarations_are f))
+          (program_passes f.program, (specification_passes f h, rest)),
+    )

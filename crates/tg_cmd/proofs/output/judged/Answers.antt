@@ -1,8 +1,6 @@
-use Rattle.std.proofs.Common.{◌≡◌, inr}
-use Rattle.tg_cmd.specs.declared.answer.Answer.TheVariants.{Refused}
-use Rattle.tg_cmd.specs.declared.answer.Refusal.TheVariants.{Early}
+use Rattle.std.proofs.Common.{inr}
 use Rattle.tg_cmd.specs.declared.output.Output as code
-use Rattle.tg_cmd.specs.Answers.{answer_after, refusal_line}
+use Rattle.tg_cmd.specs.Answers.{answer_after}
 use Rattle.tg_cmd.specs.Views.{form_view}
 use Rattle.tg_cmd.specs.Output.{IsJudgementOf, IsDeclined}
 use Rattle.tg_cmd.proofs.Outputs.{mapped_ok, other_form}
