@@ -12,8 +12,8 @@ use std::alloc::{AllocError, Global};
 use tg_term::{Class, Formula, FormulaNode, Pattern, Value, subst_formula};
 
 /// The test of a class at values of its variables, that of `Free(1)` first: the inputs are tested, and one of
-/// the checks is true there. The values are put in, and nothing is normalised. A variable that no value is
-/// given for, which no caller has, becomes False.
+/// the checks is true there. The values are put in, and nothing is normalised. A variable without a value
+/// becomes False.
 pub fn test(alloc: Global, c: &Class, values: &[Value]) -> Result<Formula, AllocError>
     ensures { IfOk result (λ f. f ≡ test_of (seen c.now) (map value values.now)) }
 {
