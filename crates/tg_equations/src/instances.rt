@@ -10,7 +10,7 @@ use tg_types::{Ty, copy};
 /// A declared type where the types `us` stand for its parameters; one that has none is nat.
 #[cycle(instance)]
 #[tactic(auto, using(crate::proofs::InstanceLaws::instance_of))]
-pub(crate) fn instance(alloc: Global, us: &[Ty], t: &Ty) -> Result<Ty, AllocError>
+pub fn instance(alloc: Global, us: &[Ty], t: &Ty) -> Result<Ty, AllocError>
     ensures { IfOk result (λ u. ty u ≡ instance (map ty us.now) (ty t.now)) }
 {
     match t {

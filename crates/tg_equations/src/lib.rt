@@ -20,6 +20,7 @@ pub use bodies::whole_function;
 pub use cases::{are_cases_right, are_cases_shaped};
 pub use core_terms::core_term;
 pub use equations::{Equation, Pattern};
+pub use instances::instance;
 pub use left_sides::left_types;
 pub use names::are_distinct;
 pub use shapes::{is_function_written, is_specification_shaped};

@@ -10,7 +10,7 @@ use tg_types::Name;
 
 /// The variables that are bound where a term stands, the outermost first.
 #[derive(Drop)]
-pub(crate) struct Binders {
+pub struct Binders {
     bound: Vec<Bound>,
     // Where the innermost variable of a name is bound, counted from the outside, from 0.
     levels: IndexMap<Name, Option<usize>>,
@@ -27,7 +27,7 @@ pub(crate) struct Bound {
 
 impl Binders {
     /// No variable is bound.
-    pub(crate) fn new(alloc: Global) -> Binders
+    pub fn new(alloc: Global) -> Binders
         ensures none { binders result ≡ [] }
         ensures right { AreRight result }
     {
@@ -103,7 +103,7 @@ impl Binders {
 
     /// Binds the variable of the number that follows.
     #[tactic(auto, using(crate::proofs::BinderLaws::binding))]
-    pub(crate) fn bind_next(&mut self) -> Result<(), AllocError>
+    pub fn bind_next(&mut self) -> Result<(), AllocError>
         requires { AreRight self.old }
         ensures { OnOk result (HaveBound self.old self.new (level (suc (length (binders self.old))))) }
     {
@@ -116,7 +116,7 @@ impl Binders {
 
     /// Takes the innermost variable away.
     #[tactic(auto, using(crate::proofs::BinderLaws::leaving))]
-    pub(crate) fn leave(&mut self) -> Result<(), AllocError>
+    pub fn leave(&mut self) -> Result<(), AllocError>
         requires { AreRight self.old }
         ensures { OnOk result (HaveLeft self.old self.new) }
     {

@@ -28,11 +28,15 @@ mod words;
 
 ghost use Rattle.tg_infer.specs.TextNames.{TextsAreNamed};
 
+pub use binders::Binders;
 pub use elaborating::elaborate;
 pub use errors::TheoryErr;
 pub use numbers::Numbers;
+pub use params::Params;
+pub use resolving::resolve;
 pub use scopes::Scope;
 pub use sizes::is_larger;
+pub use types::type_of_raw;
 pub use variables::Variables;
 pub use words::{Word, Words};
 

@@ -11,7 +11,7 @@ use tg_types::Name;
 /// The type variables of a declaration, numbered from 1 in their order. One that repeats has the number of the
 /// first. A contract sees them as a list.
 #[derive(Drop)]
-pub(crate) struct Params {
+pub struct Params {
     names: Vec<Name>,
     numbers: IndexMap<Name, u32>,
 }
@@ -31,7 +31,7 @@ impl Model for Params {
 impl Params {
     /// There is no type variable.
     #[tactic(auto, using(crate::proofs::ParamLaws::placing))]
-    pub(crate) fn new(alloc: Global) -> Params
+    pub fn new(alloc: Global) -> Params
         ensures { result ≡ [] }
     {
         Params {

@@ -24,7 +24,7 @@ use tg_typing::{Branch, Resolved};
 /// around it are as before where there is a term.
 #[cycle(resolve)]
 #[tactic(auto, using(crate::proofs::ResolvingLaws::resolving))]
-pub(crate) fn resolve(
+pub fn resolve(
     scope: &Scope<'_>,
     outer: &mut Binders,
     t: &RawTerm,

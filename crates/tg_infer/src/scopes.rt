@@ -38,7 +38,7 @@ pub struct Scope<'a> {
 
 impl<'a> Scope<'a> {
     /// Outside of the equations of functions.
-    pub(crate) fn outside(
+    pub fn outside(
         alloc: Global,
         declared: &'a Declarations,
         words: &'a Words,

@@ -15,7 +15,7 @@ use tg_types::Ty;
 /// datatypes of theirs; `None` where one has no number.
 #[cycle(types)]
 #[tactic(auto, using(crate::proofs::TypeLaws::meaning))]
-pub(crate) fn type_of_raw(
+pub fn type_of_raw(
     alloc: Global,
     params: &Params,
     names: &Numbers,

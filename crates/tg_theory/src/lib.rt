@@ -21,4 +21,5 @@ pub use calls::{calls_on_inputs, calls_program};
 pub use errors::BuildErr;
 pub use shapes::{is_body_shaped, is_datatype_shaped, is_program_fit};
 pub use theories::Theory;
+pub use typed::{are_declared, is_closed};
 pub use types::has_parameter;

@@ -3,6 +3,8 @@ ghost use Rattle.std.specs.Prelude.{◌≡◌, ◌<◌, ◌≤◌, Some, IfOk, I
 ghost use Rattle.tg_model.specs.Accepted.{IsAccepted};
 ghost use Rattle.tg_model.specs.Theory.{numbered, constructor_at};
 ghost use Rattle.tg_accept.specs.Declared.{theory};
+ghost use Rattle.tg_accept.specs.Kept.{IsKept};
+ghost use Rattle.tg_accept.specs.Standing.{declared_in};
 ghost use Rattle.tg_declarations.specs.View.{constructor, datatype, function, program, constructor_numbers};
 ghost use Rattle.tg_theory.specs.Wholes.{IsWritten};
 
@@ -44,9 +46,12 @@ impl Theory {
         let _ = &self.declared;
     }
 
-    /// What the theory declares.
+    /// What the theory declares. Each declaration was accepted where it was declared, and nothing is missing.
+    #[tactic(auto, using(crate::proofs::WholeLaws::wholes))]
     pub fn declarations(&self) -> &Declarations
-        ensures { theory self.now.name result.now ≡ self.now }
+        ensures named { theory self.now.name result.now ≡ self.now }
+        ensures whole { result.now ≡ declared_in self.now }
+        ensures kept { IsKept result.now }
     {
         &self.declared
     }

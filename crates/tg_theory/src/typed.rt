@@ -239,8 +239,9 @@ fn is_declared(t: &Ty) -> bool
     }
 }
 
+/// Whether no open type stands in the types.
 #[cycle(open)]
-fn are_declared(ts: &[Ty]) -> bool
+pub fn are_declared(ts: &[Ty]) -> bool
     ensures { result ≡ are_declared (types ts.now) }
 {
     for t in ts {
@@ -254,7 +255,7 @@ fn are_declared(ts: &[Ty]) -> bool
 /// Whether the type is nat, bool, or a declared datatype at as many closed types as it has parameters.
 #[cycle(closed)]
 #[tactic(auto, using(crate::proofs::ClosedTypes::closing))]
-fn is_closed(declared: &Declarations, t: &Ty) -> bool
+pub fn is_closed(declared: &Declarations, t: &Ty) -> bool
     ensures { result ≡ is_closed (theory [] declared.now) (ty t.now) }
 {
     match t {

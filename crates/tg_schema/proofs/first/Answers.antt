@@ -8,7 +8,7 @@ pub returns-then-is_some : goal.returns-then-is_some
 returns-then-is_some c =
     let e : is_some c.find.result ≡ true = search rules in
     found_if (theory [] c.declarations-declared.result.now) c.loop-number.number c.args.t.now c.find.result c.loop-number.invariant c.find.ensures e
-    ∙ first_named c.args.th.now c.declarations-declared.result.now c.args.t.now c.declarations-declared.ensures
+    ∙ first_named c.args.th.now c.declarations-declared.result.now c.args.t.now c.declarations-declared.ensures.named
 
 pub loop-number-preserved : goal.loop-number-preserved
 loop-number-preserved c =
@@ -24,4 +24,4 @@ pub returns : goal.returns
 returns c =
     first_none (theory [] c.declarations-declared.result.now) c.span-low.result.0 c.span-low.result.1 c.loop-number.number c.args.t.now (c.span-low.ensures (theory [] c.declarations-declared.result.now))
     c.loop-number.invariant c.loop-number-test.false
-    ∙ first_named c.args.th.now c.declarations-declared.result.now c.args.t.now c.declarations-declared.ensures
+    ∙ first_named c.args.th.now c.declarations-declared.result.now c.args.t.now c.declarations-declared.ensures.named

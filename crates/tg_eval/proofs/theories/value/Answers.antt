@@ -14,4 +14,4 @@ returns c =
     let vars = map value c.args.vars.now in
     c.in_ok-limited.ensures
     ∙ ap (λ ev. value_part (ev 10000 vars [] c.args.t.now)) (limited_unnamed [] c.args.th.now.name c.declarations.result.now answer 500)
-    ∙ ap (λ th. value_part (limited_value th answer vars c.args.t.now)) c.declarations.ensures
+    ∙ ap (λ th. value_part (limited_value th answer vars c.args.t.now)) c.declarations.ensures.named

@@ -11,7 +11,7 @@ use Rattle.tg_split.proofs.counting.count.Goals as goal
 
 pub returns : goal.returns
 returns c =
-    let datatypes = ap (λ (th : Theory). th.datatypes) c.declarations.ensures in
+    let datatypes = ap (λ (th : Theory). th.datatypes) c.declarations.ensures.named in
     let inputs : map ty c.as_slice-inputs.result.now ≡ c.args.th.now.program.inputs = ap (map ty) c.as_slice-inputs.ensures ∙ ap (λ (p : Program). p.inputs) c.program.ensures in
     c.count.ensures
     ∙ count_of_inputs c.args.th.now c.args.depth c.size_of_arguments-size.result c.accepted.ensures.accepted

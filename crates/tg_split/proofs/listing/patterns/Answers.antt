@@ -12,7 +12,7 @@ use Rattle.tg_split.proofs.listing.patterns.Goals as goal
 
 pub returns : goal.returns
 returns c =
-    let datatypes = ap (λ (th : Theory). th.datatypes) c.declarations.ensures in
+    let datatypes = ap (λ (th : Theory). th.datatypes) c.declarations.ensures.named in
     let inputs : map ty c.as_slice-inputs.result.now ≡ c.args.th.now.program.inputs = ap (map ty) c.as_slice-inputs.ensures ∙ ap (λ (p : Program). p.inputs) c.program.ensures in
     c.in_ok-ps.ensures ∙ ap (map named) (c.as_slice.ensures.value ∙ c.in_ok-rows.ensures
     ∙ ap₂ (λ (ds : List Datatype) (ts : List model.Ty). map all_marked (products (of_type ds c.args.depth) (map (instance (arguments Closed)) ts))) datatypes inputs)

@@ -1,0 +1,9 @@
+pub mod ValueTypes
+pub mod ValueLaws
+pub mod PlaceLaws
+pub mod TermLaws
+pub mod QuantifiedLaws
+pub mod InputLaws
+pub mod FormulaLaws
+pub mod NameLaws
+pub mod KnownValues

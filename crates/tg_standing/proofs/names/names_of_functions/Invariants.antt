@@ -1,0 +1,6 @@
+use Rattle.std.proofs.Common.{◌≡◌, map, take}
+use Rattle.tg_model.specs.Theory.{Function}
+use Rattle.tg_standing.proofs.names.names_of_functions.Given as goal
+
+abbrev pub invariant-loop-i : goal.invariant-loop-i
+invariant-loop-i l = l.names ≡ map (λ (x : Function). x.name) (take l.i l.th.functions)

@@ -1,0 +1,17 @@
+//! What the terms and formulas of certificates, and the values of outcomes, stand for in an accepted theory.
+#![tactic(auto)]
+
+mod formulas;
+mod inputs;
+mod names;
+mod places;
+mod quantified;
+mod terms;
+mod types_of_values;
+mod values;
+
+pub use formulas::formula_of;
+pub use names::words_of;
+pub use terms::term_of;
+pub use types_of_values::has_type;
+pub use values::value_of;
