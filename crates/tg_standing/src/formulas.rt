@@ -1,7 +1,8 @@
 //! The formulas that texts of certificates stand for. The walk needs the stack of three calls a level.
 ghost use Rattle.std.specs.Prelude.{◌≡◌, ◌∷◌, IfOk, map, option_map};
+ghost use Rattle.tg_accept.specs.Raw.{raw_tested, raw_deep};
 ghost use Rattle.tg_accept.specs.Standing.{declared_in, IsAnswer, IsFormulaAt, IsTypeOf};
-ghost use Rattle.tg_infer.specs.View.{raw_type};
+ghost use Rattle.tg_infer.specs.View.{raw_terms, raw_type};
 ghost use Rattle.tg_infer.specs.Words.{AreWordsOf};
 ghost use Rattle.tg_term.specs.Formulas.{formula};
 ghost use Rattle.tg_types.specs.Types.{ty};
@@ -12,7 +13,7 @@ ghost use Rattle.tg_standing.specs.Quantified.{IsUnder, Stands, types_under};
 use crate::places::Place;
 use crate::quantified::Under;
 use std::alloc::{AllocError, Global};
-use tg_grammar::{RawFormula, RawTy};
+use tg_grammar::{RawFormula, RawTerm, RawTy};
 use tg_infer::{Scope, Variables, Words};
 use tg_term::{Formula, FormulaNode};
 use tg_theory::{Theory, are_declared};
@@ -106,14 +107,45 @@ fn node(
             Some(x) => Ok(Some(FormulaNode::Thyp(x))),
             None => Ok(None),
         },
-        RawFormula::Tested(ts) => match place.inputs(under, ts.as_slice())? {
-            Some(xs) => Ok(Some(FormulaNode::Tested(xs))),
-            None => Ok(None),
-        },
-        RawFormula::Deep(k, ts) => match place.inputs(under, ts.as_slice())? {
-            Some(xs) => Ok(Some(FormulaNode::Deep(*k, xs))),
-            None => Ok(None),
-        },
+        RawFormula::Tested(ts) => tested(place, under, ts.as_slice()),
+        RawFormula::Deep(k, ts) => deep(place, under, *k, ts.as_slice()),
+    }
+}
+
+/// That the program passes its test at the inputs that the terms stand for.
+#[tactic(auto, using(crate::proofs::FormulaLaws::formulas))]
+fn tested(
+    place: &Place<'_>,
+    under: &mut Under,
+    ts: &[RawTerm],
+) -> Result<Option<FormulaNode>, AllocError>
+    requires place { IsPlace place.now }
+    requires under { IsUnder under.old }
+    ensures { IfOk result (λ found. Stands under.old under.new
+        (IsFormulaAt place.now.th.now (map ty place.now.vars.now) (types_under under.old) (raw_tested (raw_terms ts.now))) (option_map formula found)) }
+{
+    match place.inputs(under, ts)? {
+        Some(xs) => Ok(Some(FormulaNode::Tested(xs))),
+        None => Ok(None),
+    }
+}
+
+/// That the inputs that the terms stand for are deep for the depth.
+#[tactic(auto, using(crate::proofs::FormulaLaws::formulas))]
+fn deep(
+    place: &Place<'_>,
+    under: &mut Under,
+    k: u64,
+    ts: &[RawTerm],
+) -> Result<Option<FormulaNode>, AllocError>
+    requires place { IsPlace place.now }
+    requires under { IsUnder under.old }
+    ensures { IfOk result (λ found. Stands under.old under.new
+        (IsFormulaAt place.now.th.now (map ty place.now.vars.now) (types_under under.old) (raw_deep k (raw_terms ts.now))) (option_map formula found)) }
+{
+    match place.inputs(under, ts)? {
+        Some(xs) => Ok(Some(FormulaNode::Deep(k, xs))),
+        None => Ok(None),
     }
 }
 
