@@ -8,4 +8,3 @@ pub mod StepLaws
 pub mod AnswerLaws
 pub mod Unnamed
 pub mod Reading
-pub mod UseLaws

@@ -13,7 +13,6 @@ mod operations;
 #[cfg(test)]
 mod tests;
 mod theories;
-mod using;
 
 ghost use Rattle.tg_eval.specs.Laws.{LimitedIsValue, LimitedWithoutCalls};
 ghost use Rattle.tg_eval.specs.Reading.{LimitedReadsUsed, LimitedOfSubstituted};
@@ -23,7 +22,6 @@ pub use held::{Held, Seen};
 pub use limiting::{Limited, limited_truth, limited_value, shared_value};
 pub use operating::same;
 pub use theories::value;
-pub use using::uses;
 
 /// In an accepted theory, where a typed term has a limited value, this is its value: on every table that
 /// lists the inputs of all its program calls with the answer that the limited value takes for them, and on

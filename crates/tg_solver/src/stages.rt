@@ -4,8 +4,7 @@ ghost use Rattle.tg_solver.specs.Walk.{last_used, decided_by, stages_from};
 
 use sqlite_items::Items;
 use std::alloc::{AllocError, Global};
-use tg_eval::uses;
-use tg_term::Term;
+use tg_term::{Term, uses};
 
 /// A variable, and the constraints that use it and no later one: its value decides them.
 #[derive(Debug, Drop)]

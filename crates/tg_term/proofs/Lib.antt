@@ -8,3 +8,4 @@ pub mod Unmoved
 pub mod ValueLists
 pub mod WalkLaws
 pub mod ListHeights
+pub mod UseLaws

@@ -13,6 +13,7 @@ mod substituting;
 mod terms;
 #[cfg(test)]
 mod tests;
+mod using;
 mod valued;
 mod values;
 mod walking;
@@ -24,5 +25,6 @@ pub use formula_walking::{abstract_formula, close_formula, instantiate_formula, 
 pub use formulas::{Formula, FormulaNode};
 pub use substituting::{abstract_var, instantiate, lift, subst};
 pub use terms::{Branch, ConId, FunId, Node, OpId, Term};
+pub use using::uses;
 pub use valued::{copy_value, depth};
 pub use values::Value;

@@ -4,7 +4,7 @@ ghost use Rattle.tg_model.specs.Tree.{trees};
 ghost use Rattle.tg_model.specs.Uses.{uses, use_any, use_branch};
 ghost use Rattle.tg_term.specs.View.{arms};
 
-use tg_term::{Branch, Node, Term};
+use crate::terms::{Branch, Node, Term};
 
 /// Whether the variable of a number, from 1, stands in the term. It takes no memory.
 #[cycle(uses)]

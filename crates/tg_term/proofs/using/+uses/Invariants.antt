@@ -3,7 +3,7 @@ use Rattle.tg_model.specs.Tree.{trees}
 use Rattle.tg_model.specs.Uses.{use_any, use_branch}
 use Rattle.tg_term.specs.Measures.{height, heights, heights_within}
 use Rattle.tg_term.specs.View.{arms}
-use Rattle.tg_eval.proofs.using.+uses.Given as goal
+use Rattle.tg_term.proofs.using.+uses.Given as goal
 
 abbrev pub decreases-uses : goal.decreases-uses
 decreases-uses l = 2 * height l.t.now + 1
