@@ -25,6 +25,6 @@ pub use formula_walking::{abstract_formula, close_formula, instantiate_formula, 
 pub use formulas::{Formula, FormulaNode};
 pub use substituting::{abstract_var, instantiate, lift, subst};
 pub use terms::{Branch, ConId, FunId, Node, OpId, Term};
-pub use using::uses;
+pub use using::{calls_program, uses};
 pub use valued::{copy_value, depth};
 pub use values::Value;

@@ -1,5 +1,6 @@
-//! Which free variables stand in a term.
+//! What stands in a term: free variables, and calls of the program.
 ghost use Rattle.std.specs.Prelude.{◌≡◌};
+ghost use Rattle.tg_model.specs.Calls.{has_call, have_call, branches_have_call};
 ghost use Rattle.tg_model.specs.Tree.{trees};
 ghost use Rattle.tg_model.specs.Uses.{uses, use_any, use_branch};
 ghost use Rattle.tg_term.specs.View.{arms};
@@ -47,6 +48,50 @@ fn use_branch(bs: &[Branch], number: u32) -> bool
 {
     for b in bs {
         if uses(&b.body, number) {
+            return true;
+        }
+    }
+    false
+}
+
+/// Whether the program is called somewhere in the term, branches included. It takes no memory.
+#[cycle(calls)]
+#[tactic(auto, using(crate::proofs::UseLaws::using))]
+pub fn calls_program(t: &Term) -> bool
+    ensures { result ≡ has_call t.now }
+{
+    match t.node() {
+        Node::Bound(_) | Node::Free(_) | Node::Lit(_) | Node::Truth(_) => false,
+        Node::Put(_) => true,
+        Node::Con(_, ts) => call_program(ts.as_slice()),
+        Node::Call(_, ts) => call_program(ts.as_slice()),
+        Node::If(ts) => call_program(ts.as_slice()),
+        Node::Op(_, ts) => call_program(ts.as_slice()),
+        Node::Case(_, t, bs) => calls_program(t) || branches_call_program(bs.as_slice()),
+        Node::Let(t, body) => calls_program(t) || calls_program(body),
+    }
+}
+
+#[cycle(calls)]
+#[tactic(auto, using(crate::proofs::UseLaws::using))]
+fn call_program(ts: &[Term]) -> bool
+    ensures { result ≡ have_call (trees ts.now) }
+{
+    for t in ts {
+        if calls_program(t) {
+            return true;
+        }
+    }
+    false
+}
+
+#[cycle(calls)]
+#[tactic(auto, using(crate::proofs::UseLaws::using))]
+fn branches_call_program(bs: &[Branch]) -> bool
+    ensures { result ≡ branches_have_call (arms bs.now) }
+{
+    for b in bs {
+        if calls_program(&b.body) {
             return true;
         }
     }

@@ -8,11 +8,10 @@ ghost use Rattle.tg_declarations.specs.View.{body};
 ghost use Rattle.tg_theory.specs.Causes.{IsCause};
 ghost use Rattle.tg_theory.specs.Taking.{constructor_names, name_fault, BeginsWith};
 
-use crate::calls::calls_program;
 use crate::errors::BuildErr;
 use crate::names::Names;
 use tg_declarations::{Body, ConDef};
-use tg_term::Term;
+use tg_term::{Term, calls_program};
 
 /// Takes the names of constructors, as far as they are free.
 #[tactic(auto, using(crate::proofs::Taken::taking))]

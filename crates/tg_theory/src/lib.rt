@@ -17,7 +17,7 @@ mod typed;
 mod types;
 
 pub use building::Builder;
-pub use calls::{calls_on_inputs, calls_program};
+pub use calls::calls_on_inputs;
 pub use errors::BuildErr;
 pub use shapes::{is_body_shaped, is_datatype_shaped, is_program_fit};
 pub use theories::Theory;

@@ -3,7 +3,7 @@ use Rattle.tg_model.specs.Calls.{have_call, branches_have_call}
 use Rattle.tg_model.specs.Tree.{trees}
 use Rattle.tg_term.specs.Measures.{height, heights, heights_within}
 use Rattle.tg_term.specs.View.{arms}
-use Rattle.tg_theory.proofs.calls.+calls.Given as goal
+use Rattle.tg_term.proofs.using.+calls.Given as goal
 
 abbrev pub decreases-calls_program : goal.decreases-calls_program
 decreases-calls_program l = 2 * height l.t.now + 1
