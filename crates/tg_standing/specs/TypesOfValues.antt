@@ -13,8 +13,8 @@ module _ (ds : List Datatype) where
     has_type (boolean b) bool = true
     has_type (made c vs) (applied d ts) =
         option_map_or
-            (λ (o : Owned). nat_eq o.datatype d && have_types vs (map (instance (elements ts)) o.constructor.arguments))
-            (numbered (constructors_from 1 ds) c) false
+        (λ (o : Owned). nat_eq o.datatype d && have_types vs (map (instance (elements ts)) o.constructor.arguments))
+        (numbered (constructors_from 1 ds) c) false
     has_type v t = false
 
     pub have_types : Values → List Ty → Bool
@@ -26,5 +26,5 @@ module _ (ds : List Datatype) where
   abbrev pub is_made : ℕ → Values → ℕ → List Ty → Bool
   is_made c vs d us =
       option_map_or
-          (λ (o : Owned). nat_eq o.datatype d && have_types vs (map (instance us) o.constructor.arguments))
-          (numbered (constructors_from 1 ds) c) false
+      (λ (o : Owned). nat_eq o.datatype d && have_types vs (map (instance us) o.constructor.arguments))
+      (numbered (constructors_from 1 ds) c) false

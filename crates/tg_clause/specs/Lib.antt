@@ -1,0 +1,6 @@
+pub mod Clauses
+pub mod Answers
+pub mod Roots
+pub mod Minimal
+pub mod Numbers
+pub mod Classes
