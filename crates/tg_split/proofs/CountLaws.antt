@@ -27,6 +27,7 @@ use Rattle.tg_term.specs.Measures.{nodes_of, nodes as nodes_in}
 use Rattle.tg_model.specs.Accepted.{IsAccepted}
 use Rattle.tg_model.proofs.Inhabited.{list_closed_instance}
 use Rattle.tg_split.specs.Patterns.{Pattern, pattern_of, patterns, of_input, to_depth, holes, term_from, terms_from}
+use Rattle.tg_split.specs.Known.{size_of_data}
 use Rattle.tg_split.proofs.SizeLaws.{either_sizes, both_sizes, under_sizes}
 
 -- ---- constructors
@@ -162,3 +163,9 @@ count_of_inputs th k size accepted e =
 pub past_end : {A : Type 0} (xs : List A) (x : A) → slice_get xs (length xs) ≡ Some x → ⊥
 past_end [] x e = none-some x e
 past_end (y ∷ xs) x e = past_end xs x e
+
+-- ---- a datatype without parameters
+
+pub without_parameters : (ds : List Datatype) (k d : ℕ) (ts : List declared.Ty) (outer : Scope) → ts ≡ []
+    → size_of_data ds d k ≡ size_of (of_type ds k (applied d (tys (within ts outer))))
+without_parameters ds k d ts outer e = ap (λ (l : List declared.Ty). size_of (of_type ds k (applied d (tys (within l outer))))) (sym e)

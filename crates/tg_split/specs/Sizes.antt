@@ -1,5 +1,5 @@
 -- How many shapes there are and how large, up to the limit.
-use Rattle.std.specs.Prelude.{ℕ, ◌≡◌, map, Bool, true, false, ◌||◌, ◌+◌, ◌*◌, max, nat_lt, nat_eq, List, [], ◌∷◌, length, if◌then◌else◌}
+use Rattle.std.specs.Prelude.{ℕ, ◌≡◌, Bool, true, false, ◌||◌, ◌+◌, ◌*◌, max, nat_lt, nat_eq, List, [], ◌∷◌, map, length, if◌then◌else◌}
 use Rattle.tg_term.specs.Measures.{nodes_of}
 use Rattle.tg_split.specs.Shapes.{Shape, Shapes, hole, node, none, more, of_constructors, of_type}
 use Rattle.tg_model.specs.Types.{Ty}
