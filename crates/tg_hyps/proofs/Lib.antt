@@ -1,3 +1,5 @@
 pub mod EndLaws
 pub mod WrittenLaws
 pub mod KnownHypotheses
+pub mod ClassTruth
+pub mod ClosedForm
