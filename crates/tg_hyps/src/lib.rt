@@ -6,6 +6,8 @@
 mod classes;
 mod closures;
 mod connectives;
+#[cfg(test)]
+mod tests;
 mod theories;
 mod written;
 

@@ -22,7 +22,7 @@ use Rattle.tg_split.specs.declared.scopes.Scope.{Scope}
 use Rattle.tg_split.specs.declared.scopes.Scope.TheVariants.{Closed, Within as Inside}
 use Rattle.tg_split.specs.Scopes.{arguments, arguments-Closed, arguments-Within, within}
 use Rattle.tg_split.specs.Shapes.{Shape, Shapes, hole, node, none, more, product, products, of_constructors, arguments_at, of_type}
-use Rattle.tg_split.specs.Sizes.{most, nodes, all_nodes, is_over, count, counted, size_of, size_of_lists, either, both, under, no_shape, AreMade}
+use Rattle.tg_split.specs.Sizes.{most, nodes, all_nodes, is_over, count, counted, counted_shapes, size_of, size_of_lists, either, both, under, no_shape, AreMade}
 use Rattle.tg_term.specs.Measures.{nodes_of, nodes as nodes_in}
 use Rattle.tg_model.specs.Accepted.{IsAccepted}
 use Rattle.tg_model.proofs.Inhabited.{list_closed_instance}
@@ -155,10 +155,10 @@ products_of_inputs th k accepted =
     ap (λ us. products (of_type th.datatypes k) (map (instance us) th.program.inputs)) arguments-Closed
     ∙ ap (products (of_type th.datatypes k)) (list_closed_instance th [] th.program.inputs accepted.well_typed.inputs) ∙ at_one_depth th k th.program.inputs
 
-pub count_of_inputs : (th : Theory) (k : ℕ) (size : Size) → IsAccepted th
-    → size ≡ size_of_lists (products (of_type th.datatypes k) (map (instance (arguments Closed)) th.program.inputs)) → count size ≡ counted (patterns th k)
-count_of_inputs th k size accepted e =
-    ap count (e ∙ ap size_of_lists (products_of_inputs th k accepted)) ∙ count_of_lists (products (of_input th) (to_depth k th.program.inputs))
+pub count_of_inputs : (th : Theory) (k : ℕ) → IsAccepted th
+    → counted_shapes (products (of_type th.datatypes k) (map (instance (arguments Closed)) th.program.inputs)) ≡ counted (patterns th k)
+count_of_inputs th k accepted =
+    ap counted_shapes (products_of_inputs th k accepted) ∙ count_of_lists (products (of_input th) (to_depth k th.program.inputs))
 
 pub past_end : {A : Type 0} (xs : List A) (x : A) → slice_get xs (length xs) ≡ Some x → ⊥
 past_end [] x e = none-some x e

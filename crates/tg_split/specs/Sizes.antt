@@ -40,12 +40,16 @@ size_of ss = sized (length ss) (most nodes ss)
 abbrev pub size_of_lists : List Shapes → Size
 size_of_lists sss = sized (length sss) (most all_nodes sss)
 
-abbrev pub no_shape : Size
-no_shape = Within 0 0
-
 abbrev pub count : Size → ℕ
 count Passed = 4097
 count (Within n x) = n
+
+-- the number of lists of shapes, or 4,097 where the limit is passed
+abbrev pub counted_shapes : List Shapes → ℕ
+counted_shapes sss = count (size_of_lists sss)
+
+abbrev pub no_shape : Size
+no_shape = Within 0 0
 
 abbrev pub is_passed : Size → Bool
 is_passed Passed = true

@@ -8,7 +8,8 @@ ghost use Rattle.tg_split.specs.Known.{AreRight};
 ghost use Rattle.tg_split.specs.Patterns.{patterns};
 ghost use Rattle.tg_split.specs.Scopes.{arguments, within};
 ghost use Rattle.tg_split.specs.Shapes.{of_type, products};
-ghost use Rattle.tg_split.specs.Sizes.{counted, size_of, size_of_lists, AreMade};
+ghost use Rattle.tg_split.specs.declared.scopes.Scope.TheVariants.{Closed};
+ghost use Rattle.tg_split.specs.Sizes.{counted, counted_shapes, size_of, size_of_lists, AreMade};
 ghost use Rattle.tg_types.specs.Types.{ty, types};
 
 use crate::known::{KNOWN, Known, recall, remember};
@@ -27,22 +28,19 @@ use tg_types::{DataId, Ty};
 /// equal arguments side by side are counted once, and a recursive one once for each depth, up to that at which it
 /// passes the limit. What else of it stands in several places is counted in each: distinct types of it can double with
 /// each datatype that names the one before it at two types.
-#[tactic(auto, using(crate::proofs::CountLaws::counting))]
 pub fn count(th: &Theory, depth: u8) -> u64
     ensures { result ≡ counted (patterns th.now depth) }
 {
     th.accepted();
-    let inputs = th.program().inputs.as_slice();
+    count_of(th.declarations(), th.program().inputs.as_slice(), depth)
+}
+
+/// The number of the products of the shapes of closed types.
+pub(crate) fn count_of(declared: &Declarations, inputs: &[Ty], depth: u8) -> u64
+    ensures { result ≡ counted_shapes (products (of_type declared.now.datatypes depth) (map (instance (arguments Closed)) (map ty inputs.now))) }
+{
     let mut known = [Known::nothing(); KNOWN];
-    let size = size_of_arguments(
-        th.declarations(),
-        0,
-        None,
-        inputs,
-        &Scope::Closed,
-        depth,
-        &mut known,
-    );
+    let size = size_of_arguments(declared, 0, None, inputs, &Scope::Closed, depth, &mut known);
     size.count()
 }
 

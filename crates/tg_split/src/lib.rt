@@ -10,6 +10,8 @@ mod numbering;
 mod recursion;
 mod scopes;
 mod sizes;
+#[cfg(test)]
+mod tests;
 
 ghost use Rattle.tg_split.specs.Laws.{CoversOnce, CoversEachOnce, PatternsAreLinear, PatternsAreTyped, EachPatternIsTyped};
 

@@ -9,6 +9,7 @@ ghost use Rattle.tg_split.specs.Listing.{pattern, part, part_of, added, extended
 ghost use Rattle.tg_split.specs.Patterns.{patterns, pattern_of, term_from};
 ghost use Rattle.tg_split.specs.Scopes.{arguments, within};
 ghost use Rattle.tg_split.specs.Shapes.{Shape, of_type, products};
+ghost use Rattle.tg_split.specs.declared.scopes.Scope.TheVariants.{Closed};
 ghost use Rattle.tg_types.specs.Types.{ty};
 
 use crate::counting::size_of_arguments;
@@ -30,15 +31,21 @@ pub fn patterns(alloc: Global, th: &Theory, depth: u8) -> Result<Vec<Pattern>, A
 {
     th.accepted();
     let inputs = th.program().inputs.as_slice();
+    let ps = patterns_of(alloc, th.declarations(), inputs, depth)?;
+    Ok(ps)
+}
+
+/// The products of the shapes of closed types, as patterns.
+pub(crate) fn patterns_of(
+    alloc: Global,
+    declared: &Declarations,
+    inputs: &[Ty],
+    depth: u8,
+) -> Result<Vec<Pattern>, AllocError>
+    ensures { IfOk result (λ ps. map pattern ps.items ≡ map pattern_of (products (of_type declared.now.datatypes depth) (map (instance (arguments Closed)) (map ty inputs.now)))) }
+{
     let mut known = [Known::nothing(); KNOWN];
-    let rows = rows_of(
-        alloc,
-        th.declarations(),
-        inputs,
-        &Scope::Closed,
-        depth,
-        &mut known,
-    )?;
+    let rows = rows_of(alloc, declared, inputs, &Scope::Closed, depth, &mut known)?;
     Ok(rows)
 }
 

@@ -1,5 +1,4 @@
 use Rattle.std.proofs.Common.{◌≡◌, List, map, ◌∙◌, ap, ap₂}
-use Rattle.std.proofs.lemmas.List.Elements.{All-replicate}
 use Rattle.tg_model.specs.Types as model
 use Rattle.tg_model.specs.Theory.{Theory, Datatype, Program, instance}
 use Rattle.tg_types.specs.Types.{ty}
@@ -8,17 +7,12 @@ use Rattle.tg_split.specs.Scopes.{arguments}
 use Rattle.tg_split.specs.Shapes.{of_type, products}
 use Rattle.tg_split.specs.Patterns.{pattern_of}
 use Rattle.tg_split.proofs.ListLaws.{patterns_of_inputs}
-use Rattle.tg_split.specs.declared.known.Known.{Known}
-use Rattle.tg_split.specs.Known.{size_of_data}
 use Rattle.tg_split.proofs.listing.patterns.Goals as goal
 
 pub returns : goal.returns
 returns c =
     let datatypes = ap (λ (th : Theory). th.datatypes) c.declarations.ensures.named in
     let inputs : map ty c.as_slice-inputs.result.now ≡ c.args.th.now.program.inputs = ap (map ty) c.as_slice-inputs.ensures ∙ ap (λ (p : Program). p.inputs) c.program.ensures in
-    c.in_ok-rows.ensures.rows
+    c.in_ok-ps.ensures
     ∙ ap₂ (λ (ds : List Datatype) (ts : List model.Ty). map pattern_of (products (of_type ds c.args.depth) (map (instance (arguments Closed)) ts))) datatypes inputs
     ∙ patterns_of_inputs c.args.th.now c.args.depth c.accepted.ensures.accepted
-
-pub rows_of-requires : goal.rows_of-requires
-rows_of-requires c = All-replicate (λ (x : Known). x.size ≡ size_of_data c.declarations.result.now.datatypes x.data x.depth) 32768 c.nothing-known.result (c.nothing-known.ensures _)
