@@ -13,7 +13,7 @@ ghost use Rattle.tg_split.specs.Sizes.{counted, counted_shapes, size_of, size_of
 ghost use Rattle.tg_types.specs.Types.{ty, types};
 
 use crate::known::{KNOWN, Known, recall, remember};
-use crate::recursion::{is_itself, is_recursive, same_type};
+use crate::recursion::{are_closed, is_itself, is_recursive, same_type};
 use crate::scopes::{Root, Scope, root_of};
 use crate::sizes::Size;
 use sqlite_items::at;
@@ -23,11 +23,10 @@ use tg_types::{DataId, Ty};
 
 /// How many patterns the inputs of the theory's program have to a depth, or 4,097 where the limit is passed: where
 /// they are more than 4,096, or the terms of one of them have together more than 100,000 nodes. It takes no memory
-/// but a part of the stack, in which the sizes of datatypes without parameters are kept: each is counted once for each
-/// depth, where no two that are met at one depth have numbers that are equal modulo 128. Of a datatype with parameters
-/// equal arguments side by side are counted once, and a recursive one once for each depth, up to that at which it
-/// passes the limit. What else of it stands in several places is counted in each: distinct types of it can double with
-/// each datatype that names the one before it at two types.
+/// but a part of the stack, in which the sizes of closed types are kept: each is counted once for each depth, where
+/// no two whose datatypes have numbers that are equal modulo 128 are met at one depth in turn. What is at types with
+/// parameters other than the parameters in order is counted where it stands, but equal arguments side by side once,
+/// and a recursive datatype once for each depth, up to that at which it passes the limit.
 pub fn count(th: &Theory, depth: u8) -> u64
     ensures { result ≡ counted (patterns th.now depth) }
 {
@@ -47,7 +46,13 @@ pub(crate) fn count_of(declared: &Declarations, inputs: &[Ty], depth: u8) -> u64
 /// The size of a type's shapes to a depth.
 #[cycle(size)]
 #[tactic(auto, using(crate::proofs::CountLaws::counting))]
-fn size_at(declared: &Declarations, t: &Ty, scope: &Scope, depth: u8, known: &mut [Known]) -> Size
+fn size_at<'t>(
+    declared: &'t Declarations,
+    t: &'t Ty,
+    scope: &Scope<'t, '_>,
+    depth: u8,
+    known: &mut [Known<'t>],
+) -> Size
     requires { AreRight declared.now.datatypes known.old }
     ensures size { result ≡ size_of (of_type declared.now.datatypes depth (instance (arguments scope.now) (ty t.now))) }
     ensures right { AreRight declared.now.datatypes known.new }
@@ -62,26 +67,26 @@ fn size_at(declared: &Declarations, t: &Ty, scope: &Scope, depth: u8, known: &mu
 /// The size of the shapes of a datatype at arguments, which is counted only where it isn't known.
 #[cycle(size)]
 #[tactic(auto, using(crate::proofs::CountLaws::counting))]
-fn size_of_data(
-    declared: &Declarations,
+fn size_of_data<'t>(
+    declared: &'t Declarations,
     d: DataId,
-    ts: &[Ty],
-    outer: &Scope,
+    ts: &'t [Ty],
+    outer: &Scope<'t, '_>,
     depth: u8,
-    known: &mut [Known],
+    known: &mut [Known<'t>],
 ) -> Size
     requires { AreRight declared.now.datatypes known.old }
     ensures size { result ≡ size_of (of_type declared.now.datatypes depth (applied d (tys (within ts.now outer.now)))) }
     ensures right { AreRight declared.now.datatypes known.new }
 {
-    if !ts.is_empty() {
+    if !are_closed(ts) {
         return counted_data(declared, d, ts, outer, depth, known);
     }
-    if let Some(size) = recall(&*known, d, depth) {
+    if let Some(size) = recall(&*known, d, ts, depth) {
         return size;
     }
     let size = counted_data(declared, d, ts, outer, depth, known);
-    remember(known, d, depth, size);
+    remember(known, d, ts, depth, size);
     size
 }
 
@@ -89,13 +94,13 @@ fn size_of_data(
 /// each greater depth: a recursive datatype is counted from the least depth on, and no further.
 #[cycle(size)]
 #[tactic(auto, using(crate::proofs::CountLaws::counting))]
-fn counted_data(
-    declared: &Declarations,
+fn counted_data<'t>(
+    declared: &'t Declarations,
     d: DataId,
-    ts: &[Ty],
-    outer: &Scope,
+    ts: &'t [Ty],
+    outer: &Scope<'t, '_>,
     depth: u8,
-    known: &mut [Known],
+    known: &mut [Known<'t>],
 ) -> Size
     requires { AreRight declared.now.datatypes known.old }
     ensures size { result ≡ size_of (of_type declared.now.datatypes depth (applied d (tys (within ts.now outer.now)))) }
@@ -123,14 +128,14 @@ fn counted_data(
 /// The size of the shapes that constructors make.
 #[cycle(size)]
 #[tactic(auto, using(crate::proofs::CountLaws::counting))]
-fn size_of_constructors(
-    declared: &Declarations,
+fn size_of_constructors<'t>(
+    declared: &'t Declarations,
     d: DataId,
     own: Option<Size>,
-    cons: &[ConDef],
-    scope: &Scope,
+    cons: &'t [ConDef],
+    scope: &Scope<'t, '_>,
     depth: u8,
-    known: &mut [Known],
+    known: &mut [Known<'t>],
 ) -> Size
     requires own { IfSome own (λ size. size ≡ size_of (of_type declared.now.datatypes depth (applied d (tys (arguments scope.now))))) }
     requires right { AreRight declared.now.datatypes known.old }
@@ -149,14 +154,14 @@ fn size_of_constructors(
 /// datatype `d`, where it is known.
 #[cycle(size)]
 #[tactic(auto, using(crate::proofs::CountLaws::counting))]
-pub(crate) fn size_of_arguments(
-    declared: &Declarations,
+pub(crate) fn size_of_arguments<'t>(
+    declared: &'t Declarations,
     d: DataId,
     own: Option<Size>,
-    ts: &[Ty],
-    scope: &Scope,
+    ts: &'t [Ty],
+    scope: &Scope<'t, '_>,
     depth: u8,
-    known: &mut [Known],
+    known: &mut [Known<'t>],
 ) -> Size
     requires own { IfSome own (λ size. size ≡ size_of (of_type declared.now.datatypes depth (applied d (tys (arguments scope.now))))) }
     requires right { AreRight declared.now.datatypes known.old }
@@ -178,14 +183,14 @@ pub(crate) fn size_of_arguments(
 
 #[cycle(size)]
 #[tactic(auto, using(crate::proofs::CountLaws::counting))]
-fn size_of_argument(
-    declared: &Declarations,
+fn size_of_argument<'t>(
+    declared: &'t Declarations,
     d: DataId,
     own: Option<Size>,
-    t: &Ty,
-    scope: &Scope,
+    t: &'t Ty,
+    scope: &Scope<'t, '_>,
     depth: u8,
-    known: &mut [Known],
+    known: &mut [Known<'t>],
 ) -> Size
     requires own { IfSome own (λ size. size ≡ size_of (of_type declared.now.datatypes depth (applied d (tys (arguments scope.now))))) }
     requires right { AreRight declared.now.datatypes known.old }

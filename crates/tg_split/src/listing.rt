@@ -52,13 +52,13 @@ pub(crate) fn patterns_of(
 /// The shapes of a type to a depth.
 #[cycle(shapes)]
 #[tactic(auto, using(crate::proofs::ListLaws::listing))]
-fn shapes_of(
+fn shapes_of<'t>(
     alloc: Global,
-    declared: &Declarations,
-    t: &Ty,
-    scope: &Scope,
+    declared: &'t Declarations,
+    t: &'t Ty,
+    scope: &Scope<'t, '_>,
     depth: u8,
-    known: &mut [Known],
+    known: &mut [Known<'t>],
 ) -> Result<Vec<Part>, AllocError>
     requires { AreRight declared.now.datatypes known.old }
     ensures shapes { IfOk result (λ ss. map part ss.items ≡ map part_of (of_type declared.now.datatypes depth (instance (arguments scope.now) (ty t.now)))) }
@@ -92,14 +92,14 @@ fn hole(alloc: Global, t: Ty) -> Result<Vec<Part>, AllocError>
 
 #[cycle(shapes)]
 #[tactic(auto, using(crate::proofs::ListLaws::listing))]
-fn shapes_of_data(
+fn shapes_of_data<'t>(
     alloc: Global,
-    declared: &Declarations,
+    declared: &'t Declarations,
     d: DataId,
-    ts: &[Ty],
-    outer: &Scope,
+    ts: &'t [Ty],
+    outer: &Scope<'t, '_>,
     depth: u8,
-    known: &mut [Known],
+    known: &mut [Known<'t>],
 ) -> Result<Vec<Part>, AllocError>
     requires { AreRight declared.now.datatypes known.old }
     ensures shapes { IfOk result (λ ss. map part ss.items ≡ map part_of (of_type declared.now.datatypes depth (applied d (tys (within ts.now outer.now))))) }
@@ -128,14 +128,14 @@ fn shapes_of_data(
 /// The shapes that constructors of these numbers make.
 #[cycle(shapes)]
 #[tactic(auto, using(crate::proofs::ListLaws::listing))]
-fn shapes_of_constructors(
+fn shapes_of_constructors<'t>(
     alloc: Global,
-    declared: &Declarations,
+    declared: &'t Declarations,
     numbers: &[ConId],
-    cons: &[ConDef],
-    scope: &Scope,
+    cons: &'t [ConDef],
+    scope: &Scope<'t, '_>,
     depth: u8,
-    known: &mut [Known],
+    known: &mut [Known<'t>],
 ) -> Result<Vec<Part>, AllocError>
     requires { AreRight declared.now.datatypes known.old }
     ensures shapes { IfOk result (λ ss. AreShapes declared.now.datatypes depth (arguments scope.now) numbers.now (map constructor cons.now) (map part ss.items)) }
@@ -175,13 +175,13 @@ fn add_shapes(
 /// The rows of shapes of types, one of each, the first type slowest, as patterns.
 #[cycle(shapes)]
 #[tactic(auto, using(crate::proofs::ListLaws::listing))]
-fn rows_of(
+fn rows_of<'t>(
     alloc: Global,
-    declared: &Declarations,
-    ts: &[Ty],
-    scope: &Scope,
+    declared: &'t Declarations,
+    ts: &'t [Ty],
+    scope: &Scope<'t, '_>,
     depth: u8,
-    known: &mut [Known],
+    known: &mut [Known<'t>],
 ) -> Result<Vec<Pattern>, AllocError>
     requires { AreRight declared.now.datatypes known.old }
     ensures rows { IfOk result (λ rows. map pattern rows.items ≡ map pattern_of (products (of_type declared.now.datatypes depth) (map (instance (arguments scope.now)) (map ty ts.now)))) }

@@ -28,21 +28,30 @@ fn add_constructor(
 
 fn add_data(
     alloc: Global,
+    params: u32,
     cons: Items<ConDef>,
     declared: &mut Declarations,
 ) -> Result<(), AllocError> {
     let name = Name::new(alloc, b"d")?;
-    let params = 0;
     declared.add_datatype(DataDef { name, params, cons })?;
     Ok(())
 }
 
+/// The datatype at as many parameters.
+fn at_parameters(alloc: Global, d: DataId, params: u32) -> Result<Ty, AllocError> {
+    let mut ts = Items::new(alloc);
+    for n in 0..params {
+        ts.push(Ty::Param(n + 1))?;
+    }
+    Ok(Ty::App(d, ts))
+}
+
 /// `d nat d`
-fn twice(alloc: Global, d: DataId) -> Result<Items<Ty>, AllocError> {
+fn twice(alloc: Global, d: DataId, params: u32) -> Result<Items<Ty>, AllocError> {
     let mut args = Items::new(alloc);
-    args.push(data(alloc, d))?;
+    args.push(at_parameters(alloc, d, params)?)?;
     args.push(Ty::Nat)?;
-    args.push(data(alloc, d))?;
+    args.push(at_parameters(alloc, d, params)?)?;
     Ok(args)
 }
 
@@ -51,13 +60,13 @@ fn trees(alloc: Global) -> Result<Declarations, AllocError> {
     let mut declared = Declarations::new(alloc);
     let mut cons = Items::new(alloc);
     add_constructor(alloc, Items::new(alloc), &mut cons)?;
-    add_constructor(alloc, twice(alloc, 1)?, &mut cons)?;
-    add_data(alloc, cons, &mut declared)?;
+    add_constructor(alloc, twice(alloc, 1, 0)?, &mut cons)?;
+    add_data(alloc, 0, cons, &mut declared)?;
     let mut tree = Items::new(alloc);
     tree.push(data(alloc, 1))?;
     let mut cons = Items::new(alloc);
     add_constructor(alloc, tree, &mut cons)?;
-    add_data(alloc, cons, &mut declared)?;
+    add_data(alloc, 0, cons, &mut declared)?;
     Ok(declared)
 }
 
@@ -112,34 +121,52 @@ fn an_input_without_a_value_has_no_pattern(rt: HostRuntime) -> Result<(), Fail> 
 }
 
 /// The first has a constructor without arguments, and each other names the one before it twice.
-fn chain(alloc: Global, count: u32) -> Result<Declarations, AllocError> {
+fn chain(alloc: Global, count: u32, params: u32) -> Result<Declarations, AllocError> {
     let mut declared = Declarations::new(alloc);
     for before in 0..count {
         let args = if before == 0 {
             Items::new(alloc)
         } else {
-            twice(alloc, before)?
+            twice(alloc, before, params)?
         };
         let mut cons = Items::new(alloc);
         add_constructor(alloc, args, &mut cons)?;
-        add_data(alloc, cons, &mut declared)?;
+        add_data(alloc, params, cons, &mut declared)?;
     }
     Ok(declared)
 }
+
+const CHAIN_COUNTS: [(u32, u8, u64); 5] = [
+    (16, 15, 0),
+    (16, 16, 1),
+    (17, 17, 4097),
+    (120, 119, 0),
+    (120, 120, 4097),
+];
 
 /// The terms double with each datatype, and so would the steps of a count that takes each argument by itself.
 #[test]
 fn a_datatype_is_counted_once_to_each_depth(rt: HostRuntime) -> Result<(), Fail> {
     let alloc = rt.alloc();
-    let declared = chain(alloc, 120)?;
-    for (d, depth, want) in [
-        (16, 15, 0),
-        (16, 16, 1),
-        (17, 17, 4097),
-        (120, 119, 0),
-        (120, 120, 4097),
-    ] {
+    let declared = chain(alloc, 120, 0)?;
+    for (d, depth, want) in CHAIN_COUNTS {
         let inputs = [data(alloc, d)];
+        assert!(rt;
+            count_of(&declared, &inputs, depth) == want,
+            "of {d} to depth {depth}"
+        );
+    }
+    Ok(())
+}
+
+#[test]
+fn a_datatype_at_a_type_is_counted_once_to_each_depth(rt: HostRuntime) -> Result<(), Fail> {
+    let alloc = rt.alloc();
+    let declared = chain(alloc, 120, 1)?;
+    for (d, depth, want) in CHAIN_COUNTS {
+        let mut ts = Items::new(alloc);
+        ts.push(Ty::Bool)?;
+        let inputs = [Ty::App(d, ts)];
         assert!(rt;
             count_of(&declared, &inputs, depth) == want,
             "of {d} to depth {depth}"
