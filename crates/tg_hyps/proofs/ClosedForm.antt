@@ -111,7 +111,7 @@ existential_form th ts f h w =
 -- ---- classes
 
 module _ (th : Theory) (vars : List Ty) where
-  some_typed : (ts : List Tree) → AreTruths th vars ts → IsTyped th vars [] (some_of ts) bool
+  pub some_typed : (ts : List Tree) → AreTruths th vars ts → IsTyped th vars [] (some_of ts) bool
   some_typed [] h = (leaf bool, refl, refl)
   some_typed (t ∷ []) h = h.0
   some_typed (t ∷ (u ∷ us)) h =

@@ -3,3 +3,4 @@ pub mod WrittenLaws
 pub mod KnownHypotheses
 pub mod ClassTruth
 pub mod ClosedForm
+pub mod TypedValues

@@ -11,6 +11,7 @@ use Rattle.tg_model.specs.Formula.{Formula}
 use Rattle.tg_model.specs.Truth.{Holds, SatisfiesSpecification}
 use Rattle.tg_model.specs.TermTyping.{IsTyped, AllTyped, IsWellFormed}
 use Rattle.tg_model.specs.WellTyped.{IsWellTyped}
+use Rattle.tg_model.specs.Accepted.{IsAccepted}
 use Rattle.tg_hyps.specs.Hypotheses.{Class, test_of, open_class_of, uniformity_of, regularity_of, conclusion_of}
 
 -- at the values `vs` of the variables
@@ -98,6 +99,11 @@ ConclusionIsSpecification = (th : Theory) (tb : Table) → IsTable th tb → Hol
 -- The formulas of a class of the theory are well formed without variables, and those of a well-typed theory.
 abbrev pub ClassesAreWellFormed : Type 0
 ClassesAreWellFormed = (th : Theory) (c : Class) → IsClassOf th c → IsWellFormed th [] [] (open_class_of c) × IsWellFormed th [] [] (uniformity_of c)
+
+-- So is a test at values of the variables' types, in an accepted theory.
+abbrev pub TestsAreWellFormed : Type 0
+TestsAreWellFormed = (th : Theory) (c : Class) (vs : List Value) → IsAccepted th → IsClassOf th c → AreTyped th vs c.variables
+    → IsWellFormed th [] [] (test_of c vs)
 
 abbrev pub ConclusionIsWellFormed : Type 0
 ConclusionIsWellFormed = (th : Theory) → IsWellTyped th → IsWellFormed th [] [] (conclusion_of th)

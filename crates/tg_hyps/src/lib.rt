@@ -12,7 +12,7 @@ mod theories;
 mod written;
 
 ghost use Rattle.tg_hyps.specs.Meaning.{OpenClassIsOfMembers, UniformityIsOfMembers, TestIsOfValues, RegularityIsOfDeep, NoneIsDeep, ConclusionIsSpecification};
-ghost use Rattle.tg_hyps.specs.Meaning.{ClassesAreWellFormed, ConclusionIsWellFormed, RegularityIsWellFormed};
+ghost use Rattle.tg_hyps.specs.Meaning.{ClassesAreWellFormed, TestsAreWellFormed, ConclusionIsWellFormed, RegularityIsWellFormed};
 
 pub use classes::{open_class, test, uniformity};
 pub use theories::{conclusion, regularity};
@@ -30,9 +30,11 @@ pub fn meaning()
     ensures conclusion { ConclusionIsSpecification }
 {}
 
-/// The formulas of a class of the theory, and those of a well-typed theory, are well formed without variables.
+/// The formulas of a class of the theory, and those of a well-typed theory, are well formed without variables. So is
+/// a test at values of its variables' types, in an accepted theory.
 pub fn form()
     ensures classes { ClassesAreWellFormed }
+    ensures tests { TestsAreWellFormed }
     ensures conclusion { ConclusionIsWellFormed }
     ensures regularity { RegularityIsWellFormed }
 {}
