@@ -1,7 +1,7 @@
 -- Hypotheses that are known by hand.
-use Rattle.std.proofs.Common.{◌≡◌, [], ◌∷◌, true, false, refl, Some, None, List}
+use Rattle.std.proofs.Common.{ℕ, ◌≡◌, [], ◌∷◌, true, false, refl, Some, None, List}
 use Rattle.tg_model.specs.Tree as tree
-use Rattle.tg_model.specs.Tree.{Tree, Trees, bound, free, literal, truth, con, put, bind, op, one, two, disjunction, less, equality}
+use Rattle.tg_model.specs.Tree.{Tree, Trees, Operator, bound, free, literal, truth, con, put, bind, op, one, two, disjunction, implication, less, equality}
 use Rattle.tg_model.specs.Types as types
 use Rattle.tg_model.specs.Types.{Ty, nat, bool, parameter, meta, applied}
 use Rattle.tg_model.specs.Value as value
@@ -99,3 +99,38 @@ regular_at_last = refl
 
 no_regularity : (regularity_of (theory_of (nat ∷ bool ∷ [])) 3 ≡ None) × (some_data [] ≡ false) × (some_data (parameter 1 ∷ meta 1 ∷ []) ≡ false)
 no_regularity = (refl, refl, refl)
+
+-- The class of the naturals that stand in a relation to a number, and to which the program's answer stands in a relation:
+-- the formulas that the first form of theories is printed with.
+abbrev form_class : Operator → Operator → ℕ → Class
+form_class o p n = record {
+  inputs = one (free 1);
+  variables = nat ∷ [];
+  constraints = op o (two (free 1) (literal n)) ∷ [];
+  checks = op p (two (free 1) (put (one (free 1)))) ∷ [];
+}
+
+form_open : (o p : Operator) (n : ℕ) → open_class_of (form_class o p n)
+    ≡ all nat (implies (tested (one (bound 0))) (implies (atom (op o (two (bound 0) (literal n)))) (atom (op p (two (bound 0) (put (one (bound 0))))))))
+form_open o p n = refl
+
+form_uniformity : (o p : Operator) (n : ℕ) → uniformity_of (form_class o p n)
+    ≡ thyp (implies
+    (some nat (both (tested (one (bound 0))) (both (atom (op o (two (bound 0) (literal n)))) (atom (op p (two (bound 0) (put (one (bound 0)))))))))
+    (open_class_of (form_class o p n)))
+form_uniformity o p n = refl
+
+form_test : (o p : Operator) (n m : ℕ) → test_of (form_class o p n) (number m ∷ [])
+    ≡ both (tested (one (literal m))) (atom (op p (two (literal m) (put (one (literal m))))))
+form_test o p n m = refl
+
+form_conclusion : (o p : Operator) (n : ℕ)
+    → conclusion_of (record {
+      name = [];
+      datatypes = [];
+      functions = [];
+      program = record { name = []; inputs = nat ∷ []; answer = nat };
+      specification = op implication (two (op o (two (free 1) (literal n))) (op p (two (free 1) (put (one (free 1))))));
+    })
+    ≡ all nat (implies (tested (one (bound 0))) (atom (op implication (two (op o (two (bound 0) (literal n))) (op p (two (bound 0) (put (one (bound 0)))))))))
+form_conclusion o p n = refl

@@ -1,5 +1,5 @@
 -- The size of the shapes of a type.
-use Rattle.std.proofs.Common.{ℕ, suc, ◌≡◌, ◌+◌, Bool, true, false, ◌&&◌, List, [], ◌∷◌, ◌++◌, map, length, Option, Some, refl, sym, ◌∙◌, ap, ap₂, subst, arith, max, if◌then◌else◌, append-nil, nat_eq, append_assoc, length-append}
+use Rattle.std.proofs.Common.{ℕ, suc, ◌≡◌, ◌<◌, ◌+◌, Bool, true, false, ◌&&◌, ◌||◌, get_or, List, [], ◌∷◌, ◌++◌, map, length, Option, Some, refl, sym, ◌∙◌, ap, ap₂, subst, arith, max, if◌then◌else◌, append-nil, nat_eq, append_assoc, length-append}
 use Rattle.std.specs.Prelude.{slice_get, unwrap_or}
 use Rattle.std.specs.Option.{option_map_or}
 use Rattle.std.specs.Borrow.{Bor}
@@ -11,7 +11,10 @@ use Rattle.tg_model.specs.Types as model
 use Rattle.tg_model.specs.Types.{Ty, applied, parameter, tys, elements}
 use Rattle.tg_model.specs.Theory.{Theory, Datatype, Constructor, instance, instances, numbered, first_constructor}
 use Rattle.tg_model.proofs.ValueTyping.{elements-tys}
-use Rattle.tg_accept.specs.Faults.{is_parameter, are_parameters, is_itself}
+use Rattle.tg_accept.specs.Faults.{is_parameter, are_parameters, is_itself, has_parameter, any_has_parameter}
+use Rattle.tg_types.specs.Types.{ty, types}
+use Rattle.tg_split.specs.declared.known.Known.{Known}
+use Rattle.std.proofs.lemmas.List.Elements.{All-get_or}
 use Rattle.tg_types.specs.declared.types.Ty as declared
 use Rattle.tg_declarations.specs.declared.definitions.ConDef.{ConDef}
 use Rattle.tg_declarations.specs.declared.definitions.DataDef.{DataDef}
@@ -22,12 +25,21 @@ use Rattle.tg_split.specs.declared.scopes.Scope.{Scope}
 use Rattle.tg_split.specs.declared.scopes.Scope.TheVariants.{Closed, Within as Inside}
 use Rattle.tg_split.specs.Scopes.{arguments, arguments-Closed, arguments-Within, within}
 use Rattle.tg_split.specs.Shapes.{Shape, Shapes, hole, node, none, more, product, products, of_constructors, arguments_at, of_type}
-use Rattle.tg_split.specs.Sizes.{most, nodes, all_nodes, is_over, count, counted, size_of, size_of_lists, either, both, under, no_shape, AreMade}
+use Rattle.tg_split.specs.Sizes.{most, nodes, all_nodes, is_over, count, counted, counted_shapes, size_of, size_of_lists, either, both, under, no_shape, AreMade}
 use Rattle.tg_term.specs.Measures.{nodes_of, nodes as nodes_in}
 use Rattle.tg_model.specs.Accepted.{IsAccepted}
 use Rattle.tg_model.proofs.Inhabited.{list_closed_instance}
 use Rattle.tg_split.specs.Patterns.{Pattern, pattern_of, patterns, of_input, to_depth, holes, term_from, terms_from}
+use Rattle.tg_split.specs.Known.{size_of_data, AreRight}
 use Rattle.tg_split.proofs.SizeLaws.{either_sizes, both_sizes, under_sizes}
+
+neither : (a b : Bool) → (a || b) ≡ false → (a ≡ false) × (b ≡ false)
+neither true b e = cc e
+neither false b e = (refl, e)
+
+pub instances_of : (us : List Ty) (ts : List declared.Ty) → instances us (tys (map ty ts)) ≡ tys (map (λ t. instance us (ty t)) ts)
+instances_of us [] = refl
+instances_of us (t ∷ ts) = ap (model.more (instance us (ty t))) (instances_of us ts)
 
 -- ---- constructors
 
@@ -102,8 +114,6 @@ pub size_of_itself : (ds : List Datatype) (k : ℕ) (us : List Ty) (d : ℕ) (t 
     → size ≡ size_of (of_type ds k (applied d (tys us))) → size ≡ size_of (of_type ds k (instance us t))
 size_of_itself ds k us d t size e h = h ∙ ap (λ u. size_of (of_type ds k u)) (sym (at_itself us d t e))
 
-pub ruleset counting = (size_of_itself)
-
 pub size_of_made : (ds : List Datatype) (k : ℕ) (d : ℕ) (us : List Ty) (x : Datatype) (size : Size) → numbered ds d ≡ Some x → AreMade ds k us x.constructors size
     → size ≡ size_of (of_type ds (suc k) (applied d (tys us)))
 size_of_made ds k d us x size is made =
@@ -154,11 +164,42 @@ products_of_inputs th k accepted =
     ap (λ us. products (of_type th.datatypes k) (map (instance us) th.program.inputs)) arguments-Closed
     ∙ ap (products (of_type th.datatypes k)) (list_closed_instance th [] th.program.inputs accepted.well_typed.inputs) ∙ at_one_depth th k th.program.inputs
 
-pub count_of_inputs : (th : Theory) (k : ℕ) (size : Size) → IsAccepted th
-    → size ≡ size_of_lists (products (of_type th.datatypes k) (map (instance (arguments Closed)) th.program.inputs)) → count size ≡ counted (patterns th k)
-count_of_inputs th k size accepted e =
-    ap count (e ∙ ap size_of_lists (products_of_inputs th k accepted)) ∙ count_of_lists (products (of_input th) (to_depth k th.program.inputs))
+pub count_of_inputs : (th : Theory) (k : ℕ) → IsAccepted th
+    → counted_shapes (products (of_type th.datatypes k) (map (instance (arguments Closed)) th.program.inputs)) ≡ counted (patterns th k)
+count_of_inputs th k accepted =
+    ap counted_shapes (products_of_inputs th k accepted) ∙ count_of_lists (products (of_input th) (to_depth k th.program.inputs))
 
 pub past_end : {A : Type 0} (xs : List A) (x : A) → slice_get xs (length xs) ≡ Some x → ⊥
 past_end [] x e = none-some x e
 past_end (y ∷ xs) x e = past_end xs x e
+
+-- ---- a datatype at closed types
+
+mutual
+  closed_type : (us : List Ty) (t : Ty) → has_parameter t ≡ false → instance us t ≡ t
+  closed_type us model.nat e = refl
+  closed_type us model.bool e = refl
+  closed_type us (parameter n) e = cc e
+  closed_type us (model.meta n) e = refl
+  closed_type us (applied d ts) e = ap (applied d) (closed_types us ts e)
+
+  closed_types : (us : List Ty) (ts : model.Tys) → any_has_parameter ts ≡ false → instances us ts ≡ ts
+  closed_types us model.none e = refl
+  closed_types us (model.more t ts) e =
+      let parts = neither (has_parameter t) (any_has_parameter ts) e in ap₂ model.more (closed_type us t parts.0) (closed_types us ts parts.1)
+
+pub at_closed_types : (ds : List Datatype) (k d : ℕ) (ts : List declared.Ty) (outer : Scope) → any_has_parameter (types ts) ≡ false
+    → size_of_data ds d (types ts) k ≡ size_of (of_type ds k (applied d (tys (within ts outer))))
+at_closed_types ds k d ts outer e =
+    ap (λ l. size_of (of_type ds k (applied d l))) (sym (closed_types (arguments outer) (types ts) e) ∙ instances_of (arguments outer) ts)
+
+pub known_again : (ds : List Datatype) (known : List Known) (n d k : ℕ) (x : Known) (ts : List declared.Ty) → AreRight ds known → n < length known
+    → x ≡ get_or known n x → x.data ≡ d → x.depth ≡ k → types x.types.now ≡ types ts → x.size ≡ size_of_data ds d (types ts) k
+known_again ds known n d k x ts right low is data_is depth_is types_are =
+    let P : Known → Type 0 = λ y. y.size ≡ size_of_data ds y.data (types y.types.now) y.depth in
+    let here : x.size ≡ size_of_data ds x.data (types x.types.now) x.depth = subst P (sym is) (All-get_or P known n x low right) in
+    here ∙ (λ i. size_of_data ds (data_is i) (types_are i) (depth_is i))
+
+pub ruleset knowing = (known_again)
+
+pub ruleset counting = (size_of_itself, at_closed_types)

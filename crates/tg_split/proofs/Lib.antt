@@ -11,3 +11,4 @@ pub mod KnownCounts
 pub mod CountLaws
 pub mod NumberLaws
 pub mod ListLaws
+pub mod TypedPatterns

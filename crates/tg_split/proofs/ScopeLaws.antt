@@ -1,18 +1,22 @@
 -- The root of a type in a scope.
-use Rattle.std.proofs.Common.{ℕ, zero, suc, ◌≡◌, List, [], ◌∷◌, map, Option, Some, None, refl, sym, ◌∙◌, ap}
+use Rattle.std.proofs.Common.{ℕ, zero, suc, ◌≡◌, true, ◌&&◌, nat_eq, List, map, length, ap₂, Option, Some, None, refl, sym, ◌∙◌, ap}
 use Rattle.std.specs.Prelude.{option_map, unwrap_or}
 use Rattle.std.specs.Borrow.{Bor}
+use Rattle.std.proofs.lemmas.Bool.{eq-eqb}
+use Rattle.std.proofs.lemmas.List.{length-map}
 use Rattle.std.proofs.lemmas.Option.{slice_get-map}
+use Rattle.tg_accept.specs.Faults.{are_parameters}
 use Rattle.tg_model.specs.Types as model
-use Rattle.tg_model.specs.Theory.{instance, instances, numbered}
+use Rattle.tg_model.specs.Theory.{instance, numbered}
 use Rattle.tg_types.specs.declared.types.Ty.{Ty}
 use Rattle.tg_types.specs.declared.types.Ty.TheVariants.{Nat, Bool, Param, Meta, App}
-use Rattle.tg_types.specs.Types.{ty, ty-Nat, ty-Bool, ty-Param, ty-Meta, ty-App}
+use Rattle.tg_types.specs.Types.{ty, types, ty-Nat, ty-Bool, ty-Param, ty-Meta, ty-App}
 use Rattle.tg_theory.proofs.Terms.{parameters_yes, parameters_no}
 use Rattle.tg_split.specs.declared.scopes.Scope.{Scope, fold-Scope}
 use Rattle.tg_split.specs.declared.scopes.Scope.TheFolds.{fold-roll-Scope}
 use Rattle.tg_split.specs.declared.scopes.Scope.TheOpen.{Scope-F}
 use Rattle.tg_split.specs.declared.scopes.Scope.TheVariants.{Closed, Within, rolls-Within}
+use Rattle.tg_split.proofs.CountLaws.{at_itself, instances_of}
 use Rattle.tg_split.specs.Scopes.{arguments, arguments-Closed, arguments-Within}
 
 -- how many scopes are round a type
@@ -25,10 +29,6 @@ levels = fold-Scope ℕ levels_step
 
 pub levels-Within : (ts : Bor (List Ty)) (outer : Bor Scope) → levels (Within ts outer) ≡ suc (levels outer.now)
 levels-Within ts outer = ap levels (sym (rolls-Within ts outer)) ∙ fold-roll-Scope ℕ levels_step _
-
-pub instances_of : (us : List model.Ty) (ts : List Ty) → instances us (model.tys (map ty ts)) ≡ model.tys (map (λ t. instance us (ty t)) ts)
-instances_of us [] = refl
-instances_of us (t ∷ ts) = ap (model.more (instance us (ty t))) (instances_of us ts)
 
 pub at_nat : (us : List model.Ty) → model.nat ≡ instance us (ty Nat)
 at_nat us = ap (instance us) (sym ty-Nat)
@@ -66,6 +66,20 @@ module _ (ts : Bor (List Ty)) (outer : Bor Scope) where
   pub at_missing : (n : ℕ) → None ≡ numbered ts.now n → model.nat ≡ instance (arguments (Within ts outer)) (ty (Param n))
   at_missing n e = inside n None e
 
-pub ruleset scoped = (at_nat, at_bool, at_meta, at_data, at_closed, at_found, at_missing)
+-- the datatype at the parameters in order is the datatype at what they stand for
+pub at_parameters : (d : ℕ) (ts : List Ty) (us : Bor (List Ty)) (outer : Bor Scope)
+    → (nat_eq (length (model.elements (types ts))) (length us.now) && are_parameters 1 (types ts)) ≡ true
+    → model.applied d (model.tys (map (λ t. instance (arguments outer.now) (ty t)) us.now))
+    ≡ model.applied d (model.tys (map (λ t. instance (arguments (Within us outer)) (ty t)) ts))
+at_parameters d ts us outer e =
+    let vs : List model.Ty = map (λ t. instance (arguments outer.now) (ty t)) us.now in
+    let count : length us.now ≡ length vs = sym (length-map us.now (λ t. instance (arguments outer.now) (ty t))) in
+    let test : (nat_eq (length (model.elements (types ts))) (length vs) && are_parameters 1 (types ts)) ≡ true =
+    ap (λ n. nat_eq (length (model.elements (types ts))) n && are_parameters 1 (types ts)) (sym count) ∙ e in
+    let itself = ap₂ (λ a b. a && b) (eq-eqb d d refl) test in
+    sym (at_itself vs d (model.applied d (types ts)) itself) ∙ ap (model.applied d) (instances_of vs ts)
+    ∙ ap (λ l. model.applied d (model.tys (map (λ t. instance l (ty t)) ts))) (sym (arguments-Within us outer))
+
+pub ruleset scoped = (at_nat, at_bool, at_meta, at_data, at_closed, at_found, at_missing, at_parameters)
 
 pub ruleset counted_types = (parameters_yes, parameters_no)

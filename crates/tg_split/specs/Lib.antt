@@ -3,5 +3,5 @@ pub mod Patterns
 pub mod Laws
 pub mod Scopes
 pub mod Sizes
-pub mod Numbering
 pub mod Listing
+pub mod Known

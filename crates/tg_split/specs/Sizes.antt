@@ -1,5 +1,5 @@
 -- How many shapes there are and how large, up to the limit.
-use Rattle.std.specs.Prelude.{ℕ, ◌≡◌, map, Bool, true, false, ◌||◌, ◌+◌, ◌*◌, max, nat_lt, nat_eq, List, [], ◌∷◌, length, if◌then◌else◌}
+use Rattle.std.specs.Prelude.{ℕ, ◌≡◌, Bool, true, false, ◌||◌, ◌+◌, ◌*◌, max, nat_lt, nat_eq, List, [], ◌∷◌, map, length, if◌then◌else◌}
 use Rattle.tg_term.specs.Measures.{nodes_of}
 use Rattle.tg_split.specs.Shapes.{Shape, Shapes, hole, node, none, more, of_constructors, of_type}
 use Rattle.tg_model.specs.Types.{Ty}
@@ -40,12 +40,16 @@ size_of ss = sized (length ss) (most nodes ss)
 abbrev pub size_of_lists : List Shapes → Size
 size_of_lists sss = sized (length sss) (most all_nodes sss)
 
-abbrev pub no_shape : Size
-no_shape = Within 0 0
-
 abbrev pub count : Size → ℕ
 count Passed = 4097
 count (Within n x) = n
+
+-- the number of lists of shapes, or 4,097 where the limit is passed
+abbrev pub counted_shapes : List Shapes → ℕ
+counted_shapes sss = count (size_of_lists sss)
+
+abbrev pub no_shape : Size
+no_shape = Within 0 0
 
 abbrev pub is_passed : Size → Bool
 is_passed Passed = true

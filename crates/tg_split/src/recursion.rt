@@ -1,10 +1,11 @@
 //! Where a datatype stands among the arguments of its constructors.
-ghost use Rattle.std.specs.Prelude.{◌≡◌, true, ◌&&◌, nat_eq, length};
-ghost use Rattle.tg_accept.specs.Faults.{is_parameter, are_parameters, is_itself};
+ghost use Rattle.std.specs.Prelude.{◌≡◌, true, not, ◌&&◌, nat_eq, length};
+ghost use Rattle.tg_accept.specs.Faults.{is_parameter, are_parameters, is_itself, has_parameter, any_has_parameter};
 ghost use Rattle.tg_model.specs.Types.{elements};
 ghost use Rattle.tg_types.specs.Types.{ty, types};
 
 use tg_declarations::ConDef;
+use tg_theory::has_parameter;
 use tg_types::{DataId, Ty};
 
 /// Whether some constructor of the datatype has the datatype itself as an argument, at its parameters in order.
@@ -38,7 +39,7 @@ pub(crate) fn is_itself(d: DataId, params: usize, t: &Ty) -> bool
 
 /// Whether the types are the parameters, `params` of them, in order.
 #[tactic(auto, using(crate::proofs::ScopeLaws::counted_types))]
-fn are_all_parameters(params: usize, ts: &[Ty]) -> bool
+pub(crate) fn are_all_parameters(params: usize, ts: &[Ty]) -> bool
     ensures { result ≡ (nat_eq (length (elements (types ts.now))) params && are_parameters 1 (types ts.now)) }
 {
     if ts.len() == params {
@@ -69,6 +70,18 @@ fn is_parameter(t: &Ty, number: usize) -> bool
     }
 }
 
+/// Whether no parameter stands in the types.
+pub(crate) fn are_closed(ts: &[Ty]) -> bool
+    ensures { result ≡ not (any_has_parameter (types ts.now)) }
+{
+    for t in ts {
+        if has_parameter(t) {
+            return false;
+        }
+    }
+    true
+}
+
 /// Whether two types are equal.
 #[cycle(same)]
 #[tactic(auto, using(crate::proofs::SameTypes::same))]
@@ -85,7 +98,7 @@ pub(crate) fn same_type(a: &Ty, b: &Ty) -> bool
 
 #[cycle(same)]
 #[tactic(auto, using(crate::proofs::SameTypes::same))]
-fn same_types(ts: &[Ty], us: &[Ty]) -> bool
+pub(crate) fn same_types(ts: &[Ty], us: &[Ty]) -> bool
     ensures { result ≡ true → types ts.now ≡ types us.now }
 {
     if ts.len() != us.len() {

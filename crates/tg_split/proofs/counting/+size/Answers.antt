@@ -11,6 +11,7 @@ use Rattle.tg_declarations.specs.View.{constructor}
 use Rattle.tg_term.proofs.PartLaws.{drop_at, take_at}
 use Rattle.tg_split.specs.Scopes.{arguments, within}
 use Rattle.tg_split.specs.Shapes.{of_type, products}
+use Rattle.tg_split.specs.Known.{AreRight}
 use Rattle.tg_split.specs.Sizes.{size_of, size_of_lists, either, under, AreMade}
 use Rattle.tg_split.proofs.CountLaws.{one_more_argument, one_more_made, size_in_scope}
 use Rattle.tg_split.proofs.Growth.{passes}
@@ -32,29 +33,31 @@ size_of_constructors-loop-con-preserved _ c =
     let step = take_at cons c.loop-con.con-index con read in
     let all : so_far ++ constructor con ∷ [] ≡ map constructor (take (suc c.loop-con.con-index) cons) =
     sym (map-append constructor (take c.loop-con.con-index cons) (con ∷ [])) ∙ ap (map constructor) (sym step) in
-    let size = c.size_of_arguments-size.ensures ∙ ap (λ l. size_of_lists (products (of_type ds c.args.depth) (map (instance us) (map ty l)))) c.as_slice.ensures in
-    let next : suc c.loop-con.con-index ≡ c.loop-con.con-index + 1 = omega arith in
-    λ n. c.either-total.ensures ∙ ap (either c.loop-con.total) c.under.ensures
-    ∙ subst (λ (l : List Constructor). AreMade ds c.args.depth us l (either c.loop-con.total (under c.size_of_arguments-size.result)))
-    (all ∙ ap (λ m. map constructor (take m cons)) next)
-    (one_more_made ds c.args.depth us so_far (constructor con) c.loop-con.total c.size_of_arguments-size.result c.loop-con.invariant size) n
+    let size = c.size_of_arguments-size.ensures.size ∙ ap (λ l. size_of_lists (products (of_type ds c.args.depth) (map (instance us) (map ty l)))) c.as_slice.ensures in
+    let next : suc c.loop-con.con-index ≡ c.loop-con.con-index + 1 = omega arith in (
+      (λ n. c.either-total.ensures ∙ ap (either c.loop-con.total) c.under.ensures
+          ∙ subst (λ (l : List Constructor). AreMade ds c.args.depth us l (either c.loop-con.total (under c.size_of_arguments-size.result)))
+          (all ∙ ap (λ m. map constructor (take m cons)) next)
+          (one_more_made ds c.args.depth us so_far (constructor con) c.loop-con.total c.size_of_arguments-size.result c.loop-con.invariant.0 size) n),
+      c.size_of_arguments-size.ensures.right,
+    )
 
-pub size_of_data-returns : goal.size_of_data-returns
-size_of_data-returns _ c =
+pub counted_data-returns-clause-size : goal.counted_data-returns-clause-size
+counted_data-returns-clause-size _ c =
     let ds = c.args.declared.now.datatypes in
     let us = within c.args.ts.now c.args.outer.now in
     let def : DataDef = c.in-Some-data_def.def.now in
     let depth : c.args.depth ≡ suc c.in-Some.below = omega (arith, c.in-Some.ensures) in
     size_in_scope ds c.in-Some.below c.args.d c.args.ts c.args.outer def c.as_slice-2.result.now c.size_of_constructors.result (sym c.in-Some-data_def.ensures)
-    c.as_slice-2.ensures c.size_of_constructors.ensures
+    c.as_slice-2.ensures c.size_of_constructors.ensures.size
     ∙ ap (λ k. size_of (of_type ds k (model.applied c.args.d (model.tys us)))) (sym depth)
 
-pub size_of_data-returns-then-is_passed : goal.size_of_data-returns-then-is_passed
-size_of_data-returns-then-is_passed _ c =
+pub counted_data-returns-then-is_passed-clause-size : goal.counted_data-returns-then-is_passed-clause-size
+counted_data-returns-then-is_passed-clause-size _ c =
     let ds = c.args.declared.now.datatypes in
     let t : model.Ty = model.applied c.args.d (model.tys (within c.args.ts.now c.args.outer.now)) in
     let depth : c.args.depth ≡ suc c.in-Some.below = omega (arith, c.in-Some.ensures) in
-    passes ds c.in-Some.below t c.size_of_data-own.result (sym c.if-is_passed.ensures) c.size_of_data-own.ensures
+    passes ds c.in-Some.below t c.size_of_data-own.result (sym c.if-is_passed.ensures) c.size_of_data-own.ensures.size
     ∙ ap (λ k. size_of (of_type ds k t)) (sym depth)
 
 pub size_of_arguments-loop-left-init : goal.size_of_arguments-loop-left-init
@@ -62,7 +65,7 @@ size_of_arguments-loop-left-init _ c =
     let f = of_type c.args.declared.now.datatypes c.args.depth in
     let us = arguments c.args.scope.now in
     let ts = c.args.ts.now in
-    (omega arith, ap (λ l. size_of_lists (products f (map (instance us) (map ty l)))) (sym (drop_all (length ts) ts (omega arith))), λ t e. absurd (past_end ts t e))
+    (omega arith, ap (λ l. size_of_lists (products f (map (instance us) (map ty l)))) (sym (drop_all (length ts) ts (omega arith))), (λ t e. absurd (past_end ts t e)), c.requires.right)
 
 pub size_of_arguments-loop-left-preserved : goal.size_of_arguments-loop-left-preserved
 size_of_arguments-loop-left-preserved _ c =
@@ -74,7 +77,7 @@ size_of_arguments-loop-left-preserved _ c =
     let inside : k < length ts = omega (arith, c.loop-left-test.true, c.loop-left.invariant.0) in
     let next : suc k ≡ c.loop-left.left = omega (arith, c.loop-left-test.true) in
     let part : (t : declared.Ty) → slice_get ts k ≡ Some t → c.if-left-ts.part ≡ size_of (f (at t)) = λ t e. elim c.if-left-ts.branch [
-      | size_of_arguments-then-left-ts w ↦ w.part-is ∙ w.size_of_argument-part.ensures
+      | size_of_arguments-then-left-ts w ↦ w.part-is ∙ w.size_of_argument-part.ensures.size
           ∙ ap (λ u. size_of (f (at u))) (same_Some _ _ (sym (slice_get_read ts _ _ w.index-ts-left-then-left-ts.result refl inside w.index-ts-left-then-left-ts.is) ∙ e))
       | size_of_arguments-else-left-ts+else-not-same_type w ↦
           let there : c.loop-left.left < length ts = omega (arith, next, inside, c.loop-left.invariant.0, w.if-left-ts.false) in
@@ -84,6 +87,11 @@ size_of_arguments-loop-left-preserved _ c =
           w.part-is ∙ c.loop-left.invariant.2 w.index-ts-left-else-left-ts.result (ap (slice_get ts) (let b : c.loop-left.left ≡ k + 1 = omega (arith, next) in b) ∙ behind)
           ∙ ap (λ u. size_of (f (instance us u))) (sym same) ∙ ap (λ u. size_of (f (at u))) (same_Some _ _ (sym here ∙ e))
     ] in
+    let ds = c.args.declared.now.datatypes in
+    let right : AreRight ds c.if-left-ts.known = elim c.if-left-ts.branch [
+      | size_of_arguments-then-left-ts w ↦ subst (AreRight ds) (sym w.known-is) w.size_of_argument-part.ensures.right
+      | size_of_arguments-else-left-ts+else-not-same_type w ↦ subst (AreRight ds) (sym w.known-is) c.loop-left.invariant.3
+    ] in
     let found = get_within ts k inside in
     let t : declared.Ty = found.0 in
     let rest = drop_at ts k t found.1 ∙ ap (λ n. t ∷ drop n ts) next in (
@@ -91,4 +99,5 @@ size_of_arguments-loop-left-preserved _ c =
       c.both-size.ensures ∙ one_more_argument f (at t) (map (instance us) (map ty (drop c.loop-left.left ts))) c.if-left-ts.part c.loop-left.size (part t found.1) c.loop-left.invariant.1
           ∙ ap (λ l. size_of_lists (products f (map (instance us) (map ty l)))) (sym rest),
       part,
+      right,
     )

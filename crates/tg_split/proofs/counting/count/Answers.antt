@@ -5,15 +5,14 @@ use Rattle.tg_types.specs.Types.{ty}
 use Rattle.tg_split.specs.declared.scopes.Scope.TheVariants.{Closed}
 use Rattle.tg_split.specs.Scopes.{arguments}
 use Rattle.tg_split.specs.Shapes.{of_type, products}
-use Rattle.tg_split.specs.Sizes.{size_of_lists}
+use Rattle.tg_split.specs.Sizes.{counted_shapes}
 use Rattle.tg_split.proofs.CountLaws.{count_of_inputs}
 use Rattle.tg_split.proofs.counting.count.Goals as goal
 
 pub returns : goal.returns
 returns c =
     let datatypes = ap (λ (th : Theory). th.datatypes) c.declarations.ensures.named in
-    let inputs : map ty c.as_slice-inputs.result.now ≡ c.args.th.now.program.inputs = ap (map ty) c.as_slice-inputs.ensures ∙ ap (λ (p : Program). p.inputs) c.program.ensures in
-    c.count.ensures
-    ∙ count_of_inputs c.args.th.now c.args.depth c.size_of_arguments-size.result c.accepted.ensures.accepted
-    (c.size_of_arguments-size.ensures
-    ∙ ap₂ (λ (ds : List Datatype) (ts : List model.Ty). size_of_lists (products (of_type ds c.args.depth) (map (instance (arguments Closed)) ts))) datatypes inputs)
+    let inputs : map ty c.as_slice.result.now ≡ c.args.th.now.program.inputs = ap (map ty) c.as_slice.ensures ∙ ap (λ (p : Program). p.inputs) c.program.ensures in
+    c.count_of.ensures
+    ∙ ap₂ (λ (ds : List Datatype) (ts : List model.Ty). counted_shapes (products (of_type ds c.args.depth) (map (instance (arguments Closed)) ts))) datatypes inputs
+    ∙ count_of_inputs c.args.th.now c.args.depth c.accepted.ensures.accepted
