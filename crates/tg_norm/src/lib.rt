@@ -1,0 +1,64 @@
+//! The normal form of a term under the rewrite schemas. It is defined in `specs/Normal.antt`, as a relation without a
+//! budget, which `normal` gives exactly within the bounds. Two
+//! functions have no code, and their contracts are the laws.
+#![tactic(auto)]
+
+mod arguments;
+mod errors;
+mod forms;
+mod walking;
+
+ghost use Rattle.std.specs.Prelude.{◌≡◌, IfOk, IsErrOf};
+ghost use Rattle.tg_norm.specs.Laws.{IsOneWalk, FormsKeep, FormsKeepInputs, MadeTermsAreForms, FormsHaveNoLet};
+ghost use Rattle.tg_norm.specs.Normal.{IsNormal, IsPassed, most_levels};
+
+use crate::walking::{Run, walk};
+pub use errors::NormErr;
+pub use forms::{NormalForm, Step};
+use std::alloc::Global;
+use tg_term::Term;
+use tg_theory::Theory;
+
+/// No call of a walk is on a higher level than this. So what walks down a term needs a bounded part of the stack.
+const MAX_LEVELS: u64 = 1_000;
+
+/// The normal form of a term, with the number of calls of the walk to it and with its steps.
+///
+/// `Steps` comes exactly where the walk makes more than `left` calls, a call is on a level above 1,000, or a term that
+/// counts has more than 100,000 nodes: a schema's result, or a rebuilt term to which no schema applies. Memory is
+/// wanting too where a term would be higher than a term may be.
+pub fn normal(alloc: Global, th: &Theory, t: &Term, left: u64) -> Result<NormalForm, NormErr>
+    ensures ok { IfOk result (λ n. IsNormal th.now left t.now n) }
+    ensures steps { IsErrOf result NormErr.Steps → IsPassed th.now left most_levels t.now }
+{
+    let mut run = Run {
+        left,
+        steps: Vec::new(alloc),
+    };
+    let form = walk(alloc, th, &mut run, t, MAX_LEVELS)?;
+    let term = match form {
+        Some(form) => form,
+        None => t.share()?,
+    };
+    Ok(NormalForm {
+        term,
+        cost: left - run.left,
+        steps: run.steps,
+    })
+}
+
+/// A term has one walk, so its normal form, cost and steps depend on no budget. The normal form of a typed term has the
+/// term's value on every table and each of its types, and where all program calls of the term have the same inputs,
+/// which are made of constructors, variables and truth values, its program calls have these too.
+pub fn forms_keep()
+    ensures one { IsOneWalk }
+    ensures values { FormsKeep }
+    ensures inputs { FormsKeepInputs }
+{}
+
+/// A term that is made of constructors, variables and truth values is its own normal form. In a normal form a `let`
+/// stands in branches of an `if` or of a `case` alone.
+pub fn forms_stand()
+    ensures made { MadeTermsAreForms }
+    ensures lets { FormsHaveNoLet }
+{}
