@@ -7,3 +7,6 @@ pub mod KnownForms
 pub mod MadeForms
 pub mod Keeping
 pub mod KeepingInputs
+pub mod ConditionLaws
+pub mod ReplaceLaws
+pub mod KnownHalves

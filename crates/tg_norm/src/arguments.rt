@@ -103,7 +103,7 @@ fn choice_of(alloc: Global, condition: Vec<Term>, ts: &[Term]) -> Result<Term, A
 }
 
 /// A `case` with another scrutinee.
-fn case_of(alloc: Global, d: DataId, t: &Term, bs: &[Branch]) -> Result<Term, AllocError>
+pub(crate) fn case_of(alloc: Global, d: DataId, t: &Term, bs: &[Branch]) -> Result<Term, AllocError>
     ensures { IfOk result (λ u. u ≡ case d t.now (arms bs.now)) }
 {
     let mut branches = Items::new(alloc);

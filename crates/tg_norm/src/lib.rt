@@ -1,11 +1,14 @@
-//! The normal form of a term under the rewrite schemas. It is defined in `specs/Normal.antt`, as a relation without a
-//! budget, which `normal` gives exactly within the bounds. Two
-//! functions have no code, and their contracts are the laws.
+//! The normal form of a term under the rewrite schemas, and the split of a term at an `if`. The normal form is defined
+//! in `specs/Normal.antt`, as a relation without a budget, which `normal` gives exactly within the bounds. The split is
+//! defined in `specs/Halves.antt`. Two functions have no code, and their contracts are the laws.
 #![tactic(auto)]
 
 mod arguments;
 mod errors;
 mod forms;
+mod splitting;
+#[cfg(test)]
+mod tests;
 mod walking;
 
 ghost use Rattle.std.specs.Prelude.{◌≡◌, IfOk, IsErrOf};
@@ -15,6 +18,7 @@ ghost use Rattle.tg_norm.specs.Normal.{IsNormal, IsPassed, most_levels};
 use crate::walking::{Run, walk};
 pub use errors::NormErr;
 pub use forms::{NormalForm, Step};
+pub use splitting::{Branches, halves};
 use std::alloc::Global;
 use tg_term::Term;
 use tg_theory::Theory;
@@ -24,9 +28,10 @@ const MAX_LEVELS: u64 = 1_000;
 
 /// The normal form of a term, with the number of calls of the walk to it and with its steps.
 ///
-/// `Steps` comes exactly where the walk makes more than `left` calls, a call is on a level above 1,000, or a term that
-/// counts has more than 100,000 nodes: a schema's result, or a rebuilt term to which no schema applies. Memory is
-/// wanting too where a term would be higher than a term may be.
+/// `Steps` comes exactly where the walk passes a bound: it makes more than `left` calls, a call is on a level above
+/// 1,000, or a schema's result, or a rebuilt term to which no schema applies, has more than 100,000 nodes. Where the
+/// form is answered, the walk is within all of them. Memory is wanting too where a term would be higher than a term may
+/// be.
 pub fn normal(alloc: Global, th: &Theory, t: &Term, left: u64) -> Result<NormalForm, NormErr>
     ensures ok { IfOk result (λ n. IsNormal th.now left t.now n) }
     ensures steps { IsErrOf result NormErr.Steps → IsPassed th.now left most_levels t.now }
