@@ -24,7 +24,7 @@ first_append [] ds = refl
 first_append (c ∷ cs) ds = ap (or_first (conditions c) c) (first_append cs ds) ∙ or_first_next (conditions c) c (first_plain cs) (first_plain ds)
 
 -- there is no outside `if`, or one whose condition has none
-abbrev Either : List Tree → Type 0
+abbrev pub Either : List Tree → Type 0
 Either cs = (cs ≡ []) ⊎ ((q : Tree) × (first_plain cs ≡ Some q))
 
 either_append : (cs ds : List Tree) → Either cs → Either ds → Either (cs ++ ds)
@@ -40,7 +40,7 @@ some_left (d ∷ ds) c q o e = refl
 abbrev pub of_choice : Tree → Option Tree
 of_choice c = Some (unwrap_or (condition_of c) c)
 
-first_of_choice : (c : Tree) (rest : List Tree) → Either (conditions c) → first_plain (c ∷ (conditions c ++ rest)) ≡ of_choice c
+pub first_of_choice : (c : Tree) (rest : List Tree) → Either (conditions c) → first_plain (c ∷ (conditions c ++ rest)) ≡ of_choice c
 first_of_choice c rest (inl e) =
     ap (λ l. or_first l c (first_plain (l ++ rest))) e ∙ ap (λ l. Some (unwrap_or (first_plain l) c)) (sym e)
 first_of_choice c rest (inr (q, f)) =
@@ -48,7 +48,7 @@ first_of_choice c rest (inr (q, f)) =
     ∙ first_append (conditions c) rest ∙ ap (λ o. or_next o (first_plain rest)) f ∙ ap (λ o. Some (unwrap_or o c)) (sym f)
 
 mutual
-  either : (t : Tree) → Either (conditions t)
+  pub either : (t : Tree) → Either (conditions t)
   either (bound k) = inl refl
   either (free n) = inl refl
   either (literal n) = inl refl

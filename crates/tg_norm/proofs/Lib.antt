@@ -10,3 +10,4 @@ pub mod KeepingInputs
 pub mod ConditionLaws
 pub mod ReplaceLaws
 pub mod KnownHalves
+pub mod ConditionTypes

@@ -1,9 +1,9 @@
 -- The laws of normal forms: there is one, it has the term's value and types, it keeps the inputs of program calls, and it has no
--- `let` in the way.
-use Rattle.std.specs.Prelude.{Bool, true, false, ◌||◌, ◌≡◌, List, []}
+-- `let` in the way of a split.
+use Rattle.std.specs.Prelude.{Bool, true, false, ◌||◌, ◌≡◌, List, [], Some}
 use Rattle.tg_model.specs.Tree as tree
 use Rattle.tg_model.specs.Tree.{Tree, Trees, bound, free, literal, truth, con, call, put, choice, case, bind, op}
-use Rattle.tg_model.specs.Types.{Ty}
+use Rattle.tg_model.specs.Types.{Ty, bool}
 use Rattle.tg_model.specs.Value.{Value}
 use Rattle.tg_model.specs.Theory.{Theory}
 use Rattle.tg_model.specs.Table.{Table}
@@ -14,6 +14,7 @@ use Rattle.tg_model.specs.Accepted.{IsAccepted}
 use Rattle.tg_model.specs.Calls.{EachPut}
 use Rattle.tg_model.specs.Made.{IsMade}
 use Rattle.tg_rows.specs.Laws.{Setting, HaveValues}
+use Rattle.tg_norm.specs.Halves.{condition_of}
 use Rattle.tg_norm.specs.Normal.{Walked, Norm}
 
 -- a term has one walk: its form, cost, levels and steps depend on no budget
@@ -60,3 +61,8 @@ abbrev mutual
 -- a normal form has none
 abbrev pub FormsHaveNoLet : Type 0
 FormsHaveNoLet = (th : Theory) (t : Tree) (w : Walked) → Norm th t w → has_let w.form ≡ false
+
+-- the condition at which a normal form is split is of type bool where the form is typed, so it stands under no binder
+abbrev pub ConditionsAreTyped : Type 0
+ConditionsAreTyped = (th : Theory) (t q : Tree) (w : Walked) (vars locs : List Ty) (a : Ty) → Norm th t w → condition_of w.form ≡ Some q
+    → IsTyped th vars locs w.form a → IsTyped th vars locs q bool

@@ -12,7 +12,7 @@ mod tests;
 mod walking;
 
 ghost use Rattle.std.specs.Prelude.{◌≡◌, IfOk, IsErrOf};
-ghost use Rattle.tg_norm.specs.Laws.{IsOneWalk, FormsKeep, FormsKeepInputs, MadeTermsAreForms, FormsHaveNoLet};
+ghost use Rattle.tg_norm.specs.Laws.{IsOneWalk, FormsKeep, FormsKeepInputs, MadeTermsAreForms, FormsHaveNoLet, ConditionsAreTyped};
 ghost use Rattle.tg_norm.specs.Normal.{IsNormal, IsPassed, most_levels};
 
 use crate::walking::{Run, walk};
@@ -62,8 +62,10 @@ pub fn forms_keep()
 {}
 
 /// A term that is made of constructors, variables and truth values is its own normal form. In a normal form a `let`
-/// stands in branches of an `if` or of a `case` alone.
+/// stands in branches of an `if` or of a `case` alone. So the condition at which it is split stands under no binder, and
+/// is typed where the form is.
 pub fn forms_stand()
     ensures made { MadeTermsAreForms }
     ensures lets { FormsHaveNoLet }
+    ensures conditions { ConditionsAreTyped }
 {}

@@ -1,4 +1,4 @@
-use Rattle.std.proofs.Common.{◌≡◌, true, [], ◌∷◌, map, Option, Some, None, refl, sym, subst}
+use Rattle.std.proofs.Common.{◌≡◌, true, [], ◌∷◌, map, Option, Some, None, refl, sym, ◌∙◌, subst}
 use Rattle.tg_model.specs.Tree.{Tree, truth, free, op, plus, two}
 use Rattle.tg_model.specs.Types.{bool}
 use Rattle.tg_model.specs.Types as model
