@@ -1,16 +1,16 @@
 -- The condition at which a normal form is split is typed where the form is: it stands under no binder.
-use Rattle.std.proofs.Common.{ℕ, ◌≡◌, false, List, [], ◌∷◌, Option, Some, None, refl, ap, sym, ◌∙◌, subst}
+use Rattle.std.proofs.Common.{◌≡◌, false, List, [], ◌∷◌, Option, Some, None, refl, sym, ◌∙◌, subst}
 use Rattle.std.specs.Prelude.{unwrap_or}
 use Rattle.std.proofs.lemmas.Option.{same_Some}
 use Rattle.tg_model.specs.Tree as tree
 use Rattle.tg_model.specs.Tree.{Tree, Trees, bound, free, literal, truth, con, call, put, choice, case, bind, op}
 use Rattle.tg_model.specs.Types.{Ty, bool}
 use Rattle.tg_model.specs.Theory.{Theory}
-use Rattle.tg_model.specs.TermTyping.{Typing, Typings, leaf, instanced, compound, branching, binding, none, more, type_of, types_of, AreTypings, IsTyped}
+use Rattle.tg_model.specs.TermTyping.{Typings, leaf, instanced, compound, branching, binding, none, more, type_of, types_of, AreTypings, IsTyped}
 use Rattle.tg_model.proofs.Booleans.{or_left_false, or_right_false}
 use Rattle.tg_norm.specs.Laws.{has_let, have_let}
 use Rattle.tg_norm.specs.Halves.{conditions, all_conditions, first_plain, condition_of}
-use Rattle.tg_norm.proofs.ConditionLaws.{or_next, first_append, of_choice, first_of_choice, either}
+use Rattle.tg_norm.proofs.ConditionLaws.{or_next, first_append, first_of_choice, either}
 
 module _ (th : Theory) (vars locs : List Ty) where
   abbrev Typed : Tree → Ty → Type 0

@@ -1,5 +1,5 @@
 -- Splits that are known by hand.
-use Rattle.std.proofs.Common.{ℕ, ◌≡◌, true, false, [], ◌∷◌, Some, None, refl}
+use Rattle.std.proofs.Common.{◌≡◌, true, false, [], ◌∷◌, Some, None, refl}
 use Rattle.tg_model.specs.Tree as tree
 use Rattle.tg_model.specs.Tree.{Tree, bound, free, literal, truth, put, choice, case, bind, op, one, two, trees, negation, conjunction}
 use Rattle.tg_norm.specs.Halves.{conditions, condition_of, replaced}

@@ -11,3 +11,4 @@ pub mod ConditionLaws
 pub mod ReplaceLaws
 pub mod KnownHalves
 pub mod ConditionTypes
+pub mod ReplacedTerms

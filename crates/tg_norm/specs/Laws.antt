@@ -3,9 +3,9 @@
 use Rattle.std.specs.Prelude.{Bool, true, false, ◌||◌, ◌≡◌, List, [], Some}
 use Rattle.tg_model.specs.Tree as tree
 use Rattle.tg_model.specs.Tree.{Tree, Trees, bound, free, literal, truth, con, call, put, choice, case, bind, op}
-use Rattle.tg_model.specs.Types.{Ty, bool}
-use Rattle.tg_model.specs.Value.{Value}
-use Rattle.tg_model.specs.Theory.{Theory}
+use Rattle.tg_model.specs.Types.{Ty, bool, tys}
+use Rattle.tg_model.specs.Value.{Value, boolean}
+use Rattle.tg_model.specs.Theory.{Theory, AreClosed}
 use Rattle.tg_model.specs.Table.{Table}
 use Rattle.tg_model.specs.Denotation.{den}
 use Rattle.tg_model.specs.TermTyping.{IsTyped}
@@ -14,7 +14,7 @@ use Rattle.tg_model.specs.Accepted.{IsAccepted}
 use Rattle.tg_model.specs.Calls.{EachPut}
 use Rattle.tg_model.specs.Made.{IsMade}
 use Rattle.tg_rows.specs.Laws.{Setting, HaveValues}
-use Rattle.tg_norm.specs.Halves.{condition_of}
+use Rattle.tg_norm.specs.Halves.{condition_of, replaced}
 use Rattle.tg_norm.specs.Normal.{Walked, Norm}
 
 -- a term has one walk: its form, cost, levels and steps depend on no budget
@@ -66,3 +66,13 @@ FormsHaveNoLet = (th : Theory) (t : Tree) (w : Walked) → Norm th t w → has_l
 abbrev pub ConditionsAreTyped : Type 0
 ConditionsAreTyped = (th : Theory) (t q : Tree) (w : Walked) (vars locs : List Ty) (a : Ty) → Norm th t w → condition_of w.form ≡ Some q
     → IsTyped th vars locs w.form a → IsTyped th vars locs q bool
+
+-- Where a condition is of type bool outside all binders, a truth value in its place keeps every type of a term; and it keeps the
+-- term's value on each table where it is the condition's value.
+abbrev pub HalvesKeepTypes : Type 0
+HalvesKeepTypes = (th : Theory) → IsWellTyped th → (vars locs : List Ty) (q t : Tree) (a : Ty) (b : Bool) → AreClosed th (tys vars)
+    → IsTyped th vars [] q bool → IsTyped th vars locs t a → IsTyped th vars locs (replaced q b t) a
+
+abbrev pub HalvesKeepValues : Type 0
+HalvesKeepValues = (th : Theory) (tb : Table) (vars : List Ty) (env loc : List Value) (q t : Tree) (b : Bool) → IsTyped th vars [] q bool
+    → den th tb env [] q ≡ boolean b → den th tb env loc (replaced q b t) ≡ den th tb env loc t

@@ -1,6 +1,6 @@
 //! The normal form of a term under the rewrite schemas, and the split of a term at an `if`. The normal form is defined
 //! in `specs/Normal.antt`, as a relation without a budget, which `normal` gives exactly within the bounds. The split is
-//! defined in `specs/Halves.antt`. Two functions have no code, and their contracts are the laws.
+//! defined in `specs/Halves.antt`. Three functions have no code, and their contracts are the laws.
 #![tactic(auto)]
 
 mod arguments;
@@ -12,7 +12,7 @@ mod tests;
 mod walking;
 
 ghost use Rattle.std.specs.Prelude.{◌≡◌, IfOk, IsErrOf};
-ghost use Rattle.tg_norm.specs.Laws.{IsOneWalk, FormsKeep, FormsKeepInputs, MadeTermsAreForms, FormsHaveNoLet, ConditionsAreTyped};
+ghost use Rattle.tg_norm.specs.Laws.{IsOneWalk, FormsKeep, FormsKeepInputs, MadeTermsAreForms, FormsHaveNoLet, ConditionsAreTyped, HalvesKeepTypes, HalvesKeepValues};
 ghost use Rattle.tg_norm.specs.Normal.{IsNormal, IsPassed, most_levels};
 
 use crate::walking::{Run, walk};
@@ -68,4 +68,11 @@ pub fn forms_stand()
     ensures made { MadeTermsAreForms }
     ensures lets { FormsHaveNoLet }
     ensures conditions { ConditionsAreTyped }
+{}
+
+/// Where a condition is of type bool outside all binders, a truth value for its outside occurrences keeps each type of a
+/// term, and it keeps the term's value on each table where it is the condition's value.
+pub fn halves_keep()
+    ensures types { HalvesKeepTypes }
+    ensures values { HalvesKeepValues }
 {}
