@@ -103,6 +103,7 @@ fn choice_of(alloc: Global, condition: Vec<Term>, ts: &[Term]) -> Result<Term, A
 }
 
 /// A `case` with another scrutinee.
+#[inline(never)]
 pub(crate) fn case_of(alloc: Global, d: DataId, t: &Term, bs: &[Branch]) -> Result<Term, AllocError>
     ensures { IfOk result (λ u. u ≡ case d t.now (arms bs.now)) }
 {
@@ -118,6 +119,7 @@ pub(crate) fn case_of(alloc: Global, d: DataId, t: &Term, bs: &[Branch]) -> Resu
 
 /// Adds the normal form of an argument to those of the arguments before it. There is no list, and `forms` is empty,
 /// while all arguments are as they were.
+#[inline(never)]
 #[tactic(auto, using(crate::proofs::ArgumentLaws::adding))]
 pub(crate) fn add_form(
     forms: &mut Vec<Term>,

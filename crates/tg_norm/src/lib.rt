@@ -26,7 +26,9 @@ use tg_theory::Theory;
 /// No call of a walk is on a higher level than this. So what walks down a term needs a bounded part of the stack.
 const MAX_LEVELS: u64 = 1_000;
 
-/// The normal form of a term, with the number of calls of the walk to it and with its steps.
+/// The normal form of a term, with the number of calls of the walk to it and with its steps. A term's arguments are
+/// rewritten before the term; of an `if`, a `case` and a `let` the condition, the scrutinee and the bound term alone, as
+/// Isabelle's simplifier does with its weak congruence rules.
 ///
 /// `Steps` comes exactly where the walk passes a bound: it makes more than `left` calls, a call is on a level above
 /// 1,000, or a schema's result, or a rebuilt term to which no schema applies, has more than 100,000 nodes. Where the

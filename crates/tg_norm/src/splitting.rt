@@ -1,7 +1,7 @@
 //! The split of a term at an `if`.
-ghost use Rattle.std.specs.Prelude.{◌≡◌, IfOk, option_copied, unwrap_or};
+ghost use Rattle.std.specs.Prelude.{◌≡◌, IfOk, Some, option_copied, unwrap_or};
 ghost use Rattle.tg_model.specs.Equality.{same_tree};
-ghost use Rattle.tg_model.specs.Tree.{bind, case, choice, trees};
+ghost use Rattle.tg_model.specs.Tree.{bind, case, choice, trees, truth};
 ghost use Rattle.tg_norm.specs.Halves.{all_conditions, condition_of, first_plain, IsSplit, replaced, all_replaced};
 ghost use Rattle.tg_norm.specs.Items.{items, with_items};
 ghost use Rattle.tg_norm.specs.Walking.{or_else};
@@ -109,8 +109,7 @@ fn replaced(alloc: Global, t: &Term, q: &Term, value: bool) -> Result<Option<Ter
     ensures { IfOk result (λ o. unwrap_or o t.now ≡ replaced q.now value t.now) }
 {
     if equal(t, q) {
-        let u = Term::new(alloc, Node::Truth(value))?;
-        return Ok(Some(u));
+        return truth(alloc, value);
     }
     match t.node() {
         Node::Bound(_) | Node::Free(_) | Node::Lit(_) | Node::Truth(_) => Ok(None),
@@ -122,6 +121,15 @@ fn replaced(alloc: Global, t: &Term, q: &Term, value: bool) -> Result<Option<Ter
         Node::Case(d, s, bs) => replaced_case(alloc, *d, s, bs.as_slice(), q, value),
         Node::Let(s, body) => replaced_let(alloc, s, body, q, value),
     }
+}
+
+/// A truth value, apart from the recursion for the same reason as `with_items`.
+#[inline(never)]
+fn truth(alloc: Global, value: bool) -> Result<Option<Term>, AllocError>
+    ensures { IfOk result (λ o. o ≡ Some (truth value)) }
+{
+    let t = Term::new(alloc, Node::Truth(value))?;
+    Ok(Some(t))
 }
 
 /// Whether two terms are equal.
@@ -211,7 +219,9 @@ fn replaced_items(
     Ok(Some(other))
 }
 
-/// The term of a node with another list of terms, where it has one.
+/// The term of a node with another list of terms, where it has one. It stands apart from the recursion, as high as terms
+/// are, so that its frame isn't on the stack at each level.
+#[inline(never)]
 fn with_items(alloc: Global, node: &Node, terms: Items<Term>) -> Result<Term, AllocError>
     ensures { IfOk result (λ u. u ≡ with_items (tree node.now) (trees terms)) }
 {
