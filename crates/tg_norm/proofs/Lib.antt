@@ -1,0 +1,14 @@
+pub mod OneWalk
+pub mod ArgumentLaws
+pub mod RootLaws
+pub mod PartLaws
+pub mod TurnLaws
+pub mod KnownForms
+pub mod MadeForms
+pub mod Keeping
+pub mod KeepingInputs
+pub mod ConditionLaws
+pub mod ReplaceLaws
+pub mod KnownHalves
+pub mod ConditionTypes
+pub mod ReplacedTerms

@@ -1,0 +1,5 @@
+pub mod Normal
+pub mod Walking
+pub mod Laws
+pub mod Halves
+pub mod Items
