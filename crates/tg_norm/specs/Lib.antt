@@ -3,3 +3,4 @@ pub mod Walking
 pub mod Laws
 pub mod Halves
 pub mod Items
+pub mod Splits
