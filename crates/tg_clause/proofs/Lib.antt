@@ -6,3 +6,13 @@ pub mod ClassLaws
 pub mod NumberLaws
 pub mod MinimalLaws
 pub mod KnownClauses
+pub mod EachLaws
+pub mod SideFold
+pub mod OperandTypes
+pub mod AtomLaws
+pub mod TruthLaws
+pub mod TermTruth
+pub mod MinimalTruth
+pub mod ClassTruth
+pub mod InputLaws
+pub mod KnownTruth

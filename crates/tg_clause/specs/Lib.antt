@@ -4,3 +4,5 @@ pub mod Roots
 pub mod Minimal
 pub mod Numbers
 pub mod Classes
+pub mod Truth
+pub mod Laws
