@@ -12,3 +12,6 @@ pub mod ReplaceLaws
 pub mod KnownHalves
 pub mod ConditionTypes
 pub mod ReplacedTerms
+pub mod InputHalves
+pub mod SplitLaws
+pub mod KnownSplits

@@ -1,21 +1,24 @@
 -- The laws of normal forms: there is one, it has the term's value and types, it keeps the inputs of program calls, and it has no
--- `let` in the way of a split.
+-- `let` in the way of a split. The laws of splits: halves and leaves keep the same.
 use Rattle.std.specs.Prelude.{Bool, true, false, ◌||◌, ◌≡◌, List, [], Some}
+use Rattle.std.specs.List.{list_all}
 use Rattle.tg_model.specs.Tree as tree
 use Rattle.tg_model.specs.Tree.{Tree, Trees, bound, free, literal, truth, con, call, put, choice, case, bind, op}
 use Rattle.tg_model.specs.Types.{Ty, bool, tys}
-use Rattle.tg_model.specs.Value.{Value, boolean}
+use Rattle.tg_model.specs.Value.{Value, boolean, same_value}
 use Rattle.tg_model.specs.Theory.{Theory, AreClosed}
 use Rattle.tg_model.specs.Table.{Table}
 use Rattle.tg_model.specs.Denotation.{den}
 use Rattle.tg_model.specs.TermTyping.{IsTyped}
 use Rattle.tg_model.specs.WellTyped.{IsWellTyped}
 use Rattle.tg_model.specs.Accepted.{IsAccepted}
-use Rattle.tg_model.specs.Calls.{EachPut}
+use Rattle.tg_model.specs.Calls.{has_call, EachPut}
 use Rattle.tg_model.specs.Made.{IsMade}
+use Rattle.tg_accept.specs.Checks.{Each}
 use Rattle.tg_rows.specs.Laws.{Setting, HaveValues}
 use Rattle.tg_norm.specs.Halves.{condition_of, replaced}
 use Rattle.tg_norm.specs.Normal.{Walked, Norm}
+use Rattle.tg_norm.specs.Splits.{Splits, IsForm}
 
 -- a term has one walk: its form, cost, levels and steps depend on no budget
 abbrev pub IsOneWalk : Type 0
@@ -76,3 +79,27 @@ HalvesKeepTypes = (th : Theory) → IsWellTyped th → (vars locs : List Ty) (q 
 abbrev pub HalvesKeepValues : Type 0
 HalvesKeepValues = (th : Theory) (tb : Table) (vars : List Ty) (env loc : List Value) (q t : Tree) (b : Bool) → IsTyped th vars [] q bool
     → den th tb env [] q ≡ boolean b → den th tb env loc (replaced q b t) ≡ den th tb env loc t
+
+-- Where all program calls of a term have the inputs `d`, so have those of its halves: with either truth value for a condition that
+-- has a program call, and with its own value for another. And so have those of the condition.
+abbrev pub HalvesKeepInputs : Type 0
+HalvesKeepInputs = (th : Theory) (tb : Table) (env d : List Value) (q t : Tree) (b : Bool) → (has_call q ≡ false → den th tb env [] q ≡ boolean b)
+    → EachPut (HaveValues th tb env d) t → EachPut (HaveValues th tb env d) (replaced q b t)
+
+abbrev pub ConditionsKeepInputs : Type 0
+ConditionsKeepInputs = (th : Theory) (tb : Table) (env d : List Value) (q t : Tree) → condition_of t ≡ Some q
+    → EachPut (HaveValues th tb env d) t → EachPut (HaveValues th tb env d) q
+
+-- the term is True at the values of its variables
+abbrev pub truth_at : Theory → Table → List Value → Tree → Bool
+truth_at th tb env t = same_value (boolean true) (den th tb env [] t)
+
+-- The leaves of a normal form of type bool are of this type, and it is True exactly where all of them are.
+abbrev pub SplitsKeep : Type 0
+SplitsKeep = (th : Theory) → IsWellTyped th → (n : Setting th) (s t : Tree) (ls : List Tree) → IsForm th s t → Splits (IsForm th) t ls
+    → IsTyped th n.vars [] t bool
+    → Each (λ l. IsTyped th n.vars [] l bool) ls × (list_all (truth_at th n.table n.env) ls ≡ truth_at th n.table n.env t)
+
+-- A term has one list of leaves.
+abbrev pub IsOneSplit : Type 0
+IsOneSplit = (th : Theory) (t : Tree) (ls ms : List Tree) → Splits (IsForm th) t ls → Splits (IsForm th) t ms → ls ≡ ms

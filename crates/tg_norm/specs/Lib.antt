@@ -1,6 +1,6 @@
 pub mod Normal
 pub mod Walking
-pub mod Laws
 pub mod Halves
-pub mod Items
 pub mod Splits
+pub mod Laws
+pub mod Items

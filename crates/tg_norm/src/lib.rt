@@ -1,6 +1,7 @@
 //! The normal form of a term under the rewrite schemas, and the split of a term at an `if`. The normal form is defined
 //! in `specs/Normal.antt`, as a relation without a budget, which `normal` gives exactly within the bounds. The split is
-//! defined in `specs/Halves.antt`. Three functions have no code, and their contracts are the laws.
+//! defined in `specs/Halves.antt`, and the leaves to which splits lead in `specs/Splits.antt`. Four functions have no
+//! code, and their contracts are the laws.
 #![tactic(auto)]
 
 mod arguments;
@@ -13,6 +14,7 @@ mod walking;
 
 ghost use Rattle.std.specs.Prelude.{◌≡◌, IfOk, IsErrOf};
 ghost use Rattle.tg_norm.specs.Laws.{IsOneWalk, FormsKeep, FormsKeepInputs, MadeTermsAreForms, FormsHaveNoLet, ConditionsAreTyped, HalvesKeepTypes, HalvesKeepValues};
+ghost use Rattle.tg_norm.specs.Laws.{HalvesKeepInputs, ConditionsKeepInputs, SplitsKeep, IsOneSplit};
 ghost use Rattle.tg_norm.specs.Normal.{IsNormal, IsPassed, most_levels};
 
 use crate::walking::{Run, walk};
@@ -73,8 +75,19 @@ pub fn forms_stand()
 {}
 
 /// Where a condition is of type bool outside all binders, a truth value for its outside occurrences keeps each type of a
-/// term, and it keeps the term's value on each table where it is the condition's value.
+/// term, and it keeps the term's value on each table where it is the condition's value. Where all program calls of a term
+/// have the same inputs, the condition's and the halves' have them too: with either truth value where the condition calls
+/// the program, and else where it is the condition's value.
 pub fn halves_keep()
     ensures types { HalvesKeepTypes }
     ensures values { HalvesKeepValues }
+    ensures inputs { HalvesKeepInputs }
+    ensures conditions { ConditionsKeepInputs }
+{}
+
+/// A normal form has one list of leaves. Where it is of type bool, the leaves are, and it is true exactly where all of
+/// them are.
+pub fn splits_keep()
+    ensures one { IsOneSplit }
+    ensures leaves { SplitsKeep }
 {}
