@@ -1,21 +1,18 @@
 -- What the operands of a term inherit from it holds of all atoms of its clauses.
-use Rattle.std.proofs.Common.{◌≡◌, ◌||◌, Bool, true, false, not, List, [], ◌∷◌, ◌++◌, map, refl}
+use Rattle.std.proofs.Common.{◌≡◌, ◌||◌, Bool, true, false, not, List, ◌++◌, map}
 use Rattle.std.specs.List.{filter}
-use Rattle.tg_model.specs.Tree as tree
-use Rattle.tg_model.specs.Tree.{Tree, Trees, truth, op, one, two, Operator, negation, conjunction, disjunction, implication, equality}
+use Rattle.tg_model.specs.Tree.{Tree, Trees, op, one, two, negation, conjunction, disjunction, implication, equality}
 use Rattle.tg_model.specs.Types.{Ty, bool}
-use Rattle.tg_model.specs.Value.{Value}
 use Rattle.tg_model.specs.Theory.{Theory}
-use Rattle.tg_model.specs.Table.{Table}
 use Rattle.tg_model.specs.TermTyping.{IsTyped}
 use Rattle.tg_model.specs.Calls.{has_call, EachPut}
 use Rattle.tg_model.proofs.Booleans.{or_left_false, or_right_false}
 use Rattle.tg_accept.specs.Checks.{Each}
 use Rattle.tg_rows.specs.Laws.{HaveValues}
 use Rattle.tg_clause.specs.declared.literals.Literal.{Literal}
-use Rattle.tg_clause.specs.Clauses.{Clause, Sides, sides, clauses_of, has, joined, product, is_tautology, turned, of_truth, of_atom, of_conjunction, of_disjunction, of_implication, of_equality, some_boolean_shaped}
+use Rattle.tg_clause.specs.Clauses.{Clause, Sides, sides, clauses_of, has, joined, product, is_tautology, turned, of_truth, of_conjunction, of_disjunction, of_equality, some_boolean_shaped}
 use Rattle.tg_clause.specs.Laws.{AtomsOf, AtomsAreTyped, AtomsHaveNoCall, AtomsKeepInputs}
-use Rattle.tg_clause.proofs.EachLaws.{each_all, each_on, each_append, each_map, each_flat_map, each_filter}
+use Rattle.tg_clause.proofs.EachLaws.{each_on, each_append, each_map, each_flat_map, each_filter}
 use Rattle.tg_clause.proofs.OperandTypes.{operand, operands, sides_of_equation, conjunction_takes, disjunction_takes, implication_takes}
 use Rattle.tg_clause.proofs.SideFold.{Fold, sides_by}
 
@@ -38,7 +35,8 @@ module _ (Q : Tree → Type 0) where
   pub joined_atoms : (c d : Clause) → AtomsOf Q c → AtomsOf Q d → AtomsOf Q (joined c d)
   joined_atoms c d h k =
       each_append (λ (l : Literal). Q l.atom) c (filter (λ l. not (has c l)) d) h
-      (each_filter (λ (l : Literal). Q l.atom) (λ l. not (has c l)) d (each_on (λ (l : Literal). Q l.atom) (λ (l : Literal). not (has c l) ≡ true → Q l.atom) (λ l q e. q) d k))
+      (each_filter (λ (l : Literal). Q l.atom) (λ l. not (has c l)) d
+      (each_on (λ (l : Literal). Q l.atom) (λ (l : Literal). not (has c l) ≡ true → Q l.atom) (λ l q e. q) d k))
 
   pub product_atoms : (cs ds : List Clause) → Each (AtomsOf Q) cs → Each (AtomsOf Q) ds → Each (AtomsOf Q) (product cs ds)
   product_atoms cs ds h k =

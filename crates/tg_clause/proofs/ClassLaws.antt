@@ -1,6 +1,6 @@
 -- The constraints and checks of a clause, literal by literal.
-use Rattle.std.proofs.Common.{ℕ, ◌≡◌, ◌+◌, Bool, true, false, not, List, [], ◌∷◌, ◌++◌, map, take, Some, refl, ap, sym, ◌∙◌}
-use Rattle.std.specs.Prelude.{slice_get, cond, if◌then◌else◌}
+use Rattle.std.proofs.Common.{ℕ, ◌≡◌, ◌+◌, Bool, true, false, not, List, [], ◌∷◌, ◌++◌, map, take, Some, ap, sym, ◌∙◌}
+use Rattle.std.specs.Prelude.{slice_get, cond}
 use Rattle.std.specs.List.{filter}
 use Rattle.std.proofs.lemmas.List.{map-append}
 use Rattle.tg_model.specs.Tree.{Tree}

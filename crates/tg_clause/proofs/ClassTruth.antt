@@ -13,7 +13,7 @@ use Rattle.tg_model.proofs.Booleans.{or_left, or_right, or_cases, or_left_false,
 use Rattle.tg_accept.specs.Checks.{Each, Any}
 use Rattle.tg_rows.proofs.Settings.{boolean_value}
 use Rattle.tg_clause.specs.declared.literals.Literal.{Literal}
-use Rattle.tg_clause.specs.Clauses.{Clause, said, opposite}
+use Rattle.tg_clause.specs.Clauses.{Clause, opposite}
 use Rattle.tg_clause.specs.Classes.{term_of, constraints_of, checks_of}
 use Rattle.tg_clause.specs.Truth.{truth_at, holds, clause_holds}
 use Rattle.tg_clause.specs.Laws.{AtomsOf, ClassesSayClauses, ClassesAreTyped, ConstraintsHaveNoCall}
@@ -42,13 +42,14 @@ not_false false e = refl
 pub classes_are_typed : ClassesAreTyped
 classes_are_typed th vars locs c h = (
   each_map (λ t. IsTyped th vars locs t bool) (λ (l : Literal). term_of (opposite l)) (filter (λ (l : Literal). not (has_call l.atom)) c)
-  (each_filter (λ (l : Literal). IsTyped th vars locs (term_of (opposite l)) bool) (λ (l : Literal). not (has_call l.atom)) c
-  (each_on (λ (l : Literal). IsTyped th vars locs l.atom bool) (λ (l : Literal). not (has_call l.atom) ≡ true → IsTyped th vars locs (term_of (opposite l)) bool)
-  (λ l k e. signed_typed th vars locs (not l.positive) l.atom k) c h)),
+      (each_filter (λ (l : Literal). IsTyped th vars locs (term_of (opposite l)) bool) (λ (l : Literal). not (has_call l.atom)) c
+      (each_on (λ (l : Literal). IsTyped th vars locs l.atom bool)
+      (λ (l : Literal). not (has_call l.atom) ≡ true → IsTyped th vars locs (term_of (opposite l)) bool)
+      (λ l k e. signed_typed th vars locs (not l.positive) l.atom k) c h)),
   each_map (λ t. IsTyped th vars locs t bool) term_of (filter (λ (l : Literal). has_call l.atom) c)
-  (each_filter (λ (l : Literal). IsTyped th vars locs (term_of l) bool) (λ (l : Literal). has_call l.atom) c
-  (each_on (λ (l : Literal). IsTyped th vars locs l.atom bool) (λ (l : Literal). has_call l.atom ≡ true → IsTyped th vars locs (term_of l) bool)
-  (λ l k e. signed_typed th vars locs l.positive l.atom k) c h)),
+      (each_filter (λ (l : Literal). IsTyped th vars locs (term_of l) bool) (λ (l : Literal). has_call l.atom) c
+      (each_on (λ (l : Literal). IsTyped th vars locs l.atom bool) (λ (l : Literal). has_call l.atom ≡ true → IsTyped th vars locs (term_of l) bool)
+      (λ l k e. signed_typed th vars locs l.positive l.atom k) c h)),
 )
 
 pub constraints_have_no_call : ConstraintsHaveNoCall
@@ -96,8 +97,10 @@ module _ (w : World) (env loc : List Value) where
   pub free_false : (c : Clause) → Each (λ t. value_in w env loc t ≡ boolean true) (constraints_of c)
       → Each (λ (l : Literal). has_call l.atom ≡ false → holds w env loc l ≡ false) c
   free_false c h =
-      each_on (λ (l : Literal). not (has_call l.atom) ≡ true → IsTrueTerm (term_of (opposite l))) (λ (l : Literal). has_call l.atom ≡ false → holds w env loc l ≡ false)
-      (λ l k e. not_false (holds w env loc l) (sym (opposite_truth l.positive (truth_at w env loc l.atom)) ∙ sign_holds (not l.positive) l.atom (k (ap not e)))) c
+      each_on (λ (l : Literal). not (has_call l.atom) ≡ true → IsTrueTerm (term_of (opposite l)))
+      (λ (l : Literal). has_call l.atom ≡ false → holds w env loc l ≡ false)
+      (λ l k e. not_false (holds w env loc l)
+      (sym (opposite_truth l.positive (truth_at w env loc l.atom)) ∙ sign_holds (not l.positive) l.atom (k (ap not e)))) c
       (each_kept (λ (l : Literal). IsTrueTerm (term_of (opposite l))) (λ (l : Literal). not (has_call l.atom)) c
       (each_unmap IsTrueTerm (λ (l : Literal). term_of (opposite l)) (filter (λ (l : Literal). not (has_call l.atom)) c) h))
 
@@ -127,7 +130,7 @@ module _ (w : World) (env loc : List Value) where
       by rest true = rest
       by rest false = (
         holds_sign (not l.positive) l.atom v.0
-        (opposite_truth l.positive (truth_at w env loc l.atom) ∙ ap not (or_left_false (holds w env loc l) (clause_holds w env loc c) h)),
+            (opposite_truth l.positive (truth_at w env loc l.atom) ∙ ap not (or_left_false (holds w env loc l) (clause_holds w env loc c) h)),
         rest,
       )
 
@@ -136,7 +139,8 @@ module _ (w : World) (env loc : List Value) where
   check_holds [] h = absurd h
   check_holds (l ∷ c) h = by (λ k. check_holds c k) (has_call l.atom) h
     where
-      by : (Any IsTrueTerm (checks_of c) → clause_holds w env loc c ≡ true) → (b : Bool) → Any IsTrueTerm (map term_of (cond b (l ∷ filter (λ (m : Literal). has_call m.atom) c) (filter (λ (m : Literal). has_call m.atom) c)))
+      by : (Any IsTrueTerm (checks_of c) → clause_holds w env loc c ≡ true) → (b : Bool)
+          → Any IsTrueTerm (map term_of (cond b (l ∷ filter (λ (m : Literal). has_call m.atom) c) (filter (λ (m : Literal). has_call m.atom) c)))
           → clause_holds w env loc (l ∷ c) ≡ true
       by rest true (inl k) = or_left (holds w env loc l) (clause_holds w env loc c) (sign_holds l.positive l.atom k)
       by rest true (inr k) = or_right (holds w env loc l) (clause_holds w env loc c) (rest k)
@@ -152,8 +156,9 @@ module _ (w : World) (env loc : List Value) where
 pub classes_say_clauses : ClassesSayClauses
 classes_say_clauses th wt n c h =
     let w : World = world th n.table in
-    let v : AtomsOf (IsTruthValue w n.env n.loc) c = each_on (λ (l : Literal). IsTyped th n.vars n.locs l.atom bool) (λ (l : Literal). IsTruthValue w n.env n.loc l.atom)
-        (λ l k. boolean_value th wt n l.atom k) c h in (
+    let v : AtomsOf (IsTruthValue w n.env n.loc) c =
+    each_on (λ (l : Literal). IsTyped th n.vars n.locs l.atom bool) (λ (l : Literal). IsTruthValue w n.env n.loc l.atom)
+    (λ l k. boolean_value th wt n l.atom k) c h in (
       λ e f. some_check w n.env n.loc c (free_false w n.env n.loc c f) v e,
       λ f. class_says w n.env n.loc c v f,
     )

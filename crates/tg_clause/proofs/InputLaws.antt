@@ -1,13 +1,12 @@
 -- Where the literals of a clause without a program call are false, its program calls have the inputs that they have in the term.
-use Rattle.std.proofs.Common.{◌≡◌, Bool, true, false, not, ◌&&◌, ◌||◌, List, [], ◌∷◌, ◌++◌, map, refl, ap, sym, ◌∙◌, inl, inr, subst}
+use Rattle.std.proofs.Common.{◌≡◌, Bool, true, false, not, ◌&&◌, ◌||◌, List, [], ◌∷◌, map, refl, ap, sym, ◌∙◌, inl, inr, subst}
 use Rattle.std.specs.Prelude.{◌⊎◌, cond}
 use Rattle.std.specs.List.{list_any, filter}
 use Rattle.std.proofs.lemmas.List.Folds.{list_any-append}
 use Rattle.tg_model.specs.Tree.{Tree, op, two, implication}
-use Rattle.tg_model.specs.Types.{Ty, bool}
+use Rattle.tg_model.specs.Types.{bool}
 use Rattle.tg_model.specs.Value.{Value, boolean}
 use Rattle.tg_model.specs.Theory.{Theory}
-use Rattle.tg_model.specs.Table.{Table}
 use Rattle.tg_model.specs.Denotation.{World, world, den}
 use Rattle.tg_model.specs.TermTyping.{IsTyped}
 use Rattle.tg_model.specs.WellTyped.{IsWellTyped}
@@ -17,13 +16,13 @@ use Rattle.tg_accept.specs.Checks.{Each}
 use Rattle.tg_rows.specs.Laws.{Setting, HaveValues}
 use Rattle.tg_clause.specs.declared.literals.Literal.{Literal}
 use Rattle.tg_clause.specs.Clauses.{Clause, sides, clauses_of, has, opposite, same_literal, joined, product, is_tautology}
-use Rattle.tg_clause.specs.Classes.{term_of, constraints_of, checks_of}
+use Rattle.tg_clause.specs.Classes.{term_of}
 use Rattle.tg_clause.specs.Minimal.{is_part}
 use Rattle.tg_clause.specs.Truth.{truth_at, holds, clause_holds, all_hold}
 use Rattle.tg_clause.specs.Laws.{AtomsOf, HasInputs, ClausesHaveInputs, ImplicationsHaveInputs, ChecksHaveInputs}
 use Rattle.tg_clause.proofs.LiteralLaws.{same_is}
 use Rattle.tg_clause.proofs.EachLaws.{each_on, each_both, each_under, each_first, each_rest, each_map, each_flat_map, each_filter, each_kept}
-use Rattle.tg_clause.proofs.AtomLaws.{OnSides, sides_atoms, clauses_atoms, joined_atoms, callless_parts, put_parts}
+use Rattle.tg_clause.proofs.AtomLaws.{sides_atoms, clauses_atoms, joined_atoms, callless_parts, put_parts}
 use Rattle.tg_clause.proofs.TermTruth.{term_means}
 use Rattle.tg_clause.proofs.MinimalTruth.{part_of_itself}
 use Rattle.tg_clause.proofs.ClassTruth.{value_true, signed_puts, free_false}
@@ -104,8 +103,9 @@ module _ (w : World) (env loc : List Value) where
   one_false [] = tt
   one_false (c ∷ cs) = (
     λ e. ap (λ b. b && all_hold w env loc cs) e,
-    each_on (λ d. clause_holds w env loc d ≡ false → all_hold w env loc cs ≡ false) (λ d. clause_holds w env loc d ≡ false → all_hold w env loc (c ∷ cs) ≡ false)
-    (λ d k e. and_false (clause_holds w env loc c) (all_hold w env loc cs) (k e)) cs (one_false cs),
+    each_on (λ d. clause_holds w env loc d ≡ false → all_hold w env loc cs ≡ false)
+        (λ d. clause_holds w env loc d ≡ false → all_hold w env loc (c ∷ cs) ≡ false)
+        (λ d k e. and_false (clause_holds w env loc c) (all_hold w env loc cs) (k e)) cs (one_false cs),
   )
 
 pub clauses_have_inputs : ClausesHaveInputs
@@ -158,11 +158,13 @@ module _ (th : Theory) (wt : IsWellTyped th) (n : Setting th) (d : List Value) (
   -- a condition without a program call is True where a clause of its negation is false
   each_knows : Each (λ c. Each Free c → Known) (sides q).negative.list
   each_knows =
-      each_both (λ c. has_call q ≡ false → AtomsOf (λ a. has_call a ≡ false) c) (λ c. clause_holds w n.env [] c ≡ false → all_hold w n.env [] (sides q).negative.list ≡ false)
+      each_both (λ c. has_call q ≡ false → AtomsOf (λ a. has_call a ≡ false) c)
+      (λ c. clause_holds w n.env [] c ≡ false → all_hold w n.env [] (sides q).negative.list ≡ false)
       (λ c. Each Free c → Known)
       (λ c f g free e. value_true (den th n.table n.env [] q) (not_true (truth_at w n.env [] q)
       (sym (term_means th wt outside q typed).unmet
-      ∙ g (none_holds w n.env [] c (each_both (λ (l : Literal). has_call l.atom ≡ false) Free (λ (l : Literal). holds w n.env [] l ≡ false) (λ l a b. b a) c (f e) free)))))
+      ∙ g (none_holds w n.env [] c (each_both (λ (l : Literal). has_call l.atom ≡ false) Free (λ (l : Literal). holds w n.env [] l ≡ false)
+      (λ l a b. b a) c (f e) free)))))
       (sides q).negative.list
       (each_under (has_call q ≡ false) (AtomsOf (λ a. has_call a ≡ false)) (sides q).negative.list
       (λ e. (sides_atoms (λ a. has_call a ≡ false) callless_parts q e).negative))

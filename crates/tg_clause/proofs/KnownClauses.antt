@@ -1,7 +1,7 @@
 -- Clauses that are known by hand. `?1` to `?4` are truth values, and `?5 < ?6` compares naturals.
-use Rattle.std.proofs.Common.{◌≡◌, true, false, refl, List, [], ◌∷◌}
+use Rattle.std.proofs.Common.{◌≡◌, true, false, refl, [], ◌∷◌}
 use Rattle.tg_model.specs.Tree.{Tree, free, truth, put, op, one, two, negation, conjunction, disjunction, implication, equality, less}
-use Rattle.tg_clause.specs.Clauses.{Clause, said, most_clauses, clauses_of, fits}
+use Rattle.tg_clause.specs.Clauses.{said, most_clauses, clauses_of, fits}
 use Rattle.tg_clause.specs.Minimal.{minimised}
 use Rattle.tg_clause.specs.Classes.{constraints_of, checks_of}
 

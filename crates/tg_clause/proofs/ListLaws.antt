@@ -1,7 +1,7 @@
 -- Lists of literals and clauses that grow.
 use Rattle.std.proofs.Common.{ℕ, zero, suc, ◌≡◌, ◌+◌, Bool, true, false, not, List, [], ◌∷◌, ◌++◌, map, take, Some, refl, ap, sym, ◌∙◌, add-one}
 use Rattle.std.specs.Prelude.{slice_get, cond}
-use Rattle.std.specs.List.{filter, flat_map}
+use Rattle.std.specs.List.{filter}
 use Rattle.std.proofs.lemmas.List.{map-append, append_assoc}
 use Rattle.std.proofs.lemmas.Grind.{flat_map-append}
 use Rattle.tg_clause.specs.declared.literals.Literal.{Literal}

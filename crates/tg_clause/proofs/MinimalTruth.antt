@@ -1,7 +1,7 @@
 -- What minimising leaves says the same: of each clause some part stays.
-use Rattle.std.proofs.Common.{◌≡◌, Bool, true, false, not, ◌&&◌, ◌||◌, List, [], ◌∷◌, ◌++◌, refl, ap, sym, ◌∙◌, inl, inr, subst}
+use Rattle.std.proofs.Common.{◌≡◌, Bool, true, false, not, ◌||◌, List, [], ◌∷◌, ◌++◌, refl, ap, sym, ◌∙◌, inl, inr}
 use Rattle.std.specs.Prelude.{if◌then◌else◌}
-use Rattle.std.specs.List.{list_any, list_all}
+use Rattle.std.specs.List.{list_any}
 use Rattle.std.proofs.lemmas.List.Folds.{list_any-append, list_all-append}
 use Rattle.tg_model.specs.Value.{Value}
 use Rattle.tg_model.specs.Denotation.{World}
@@ -33,11 +33,13 @@ part_of_part (l ∷ a) b c h k =
 part_of_more : (d c : Clause) (l : Literal) → is_part d c ≡ true → is_part d (l ∷ c) ≡ true
 part_of_more [] c l h = refl
 part_of_more (m ∷ d) c l h =
-    and_both (has (l ∷ c) m) (is_part d (l ∷ c)) (or_right (same_literal m l) (has c m) (and_left (has c m) (is_part d c) h)) (part_of_more d c l (and_right (has c m) (is_part d c) h))
+    and_both (has (l ∷ c) m) (is_part d (l ∷ c)) (or_right (same_literal m l) (has c m) (and_left (has c m) (is_part d c) h))
+    (part_of_more d c l (and_right (has c m) (is_part d c) h))
 
 pub part_of_itself : (c : Clause) → is_part c c ≡ true
 part_of_itself [] = refl
-part_of_itself (l ∷ c) = and_both (has (l ∷ c) l) (is_part c (l ∷ c)) (or_left (same_literal l l) (has c l) (same_self l)) (part_of_more c c l (part_of_itself c))
+part_of_itself (l ∷ c) =
+    and_both (has (l ∷ c) l) (is_part c (l ∷ c)) (or_left (same_literal l l) (has c l) (same_self l)) (part_of_more c c l (part_of_itself c))
 
 not_false : (a : Bool) → not a ≡ true → a ≡ false
 not_false true e = cc e
@@ -98,7 +100,7 @@ nothing_lower [] x = refl
 nothing_lower (d ∷ ds) x =
     let y = if is_proper_part d x then d else x in
     let here : is_proper_part d (lowest ds y) ≡ false = is_false (is_proper_part d (lowest ds y))
-        (λ e. let z : true ≡ false = sym (proper_of_part d (lowest ds y) y e (lowest_is_part ds y)) ∙ lower_is_lower d x in cc z) in
+    (λ e. let z : true ≡ false = sym (proper_of_part d (lowest ds y) y e (lowest_is_part ds y)) ∙ lower_is_lower d x in cc z) in
     (λ i. here i || list_any (λ c. is_proper_part c (lowest ds y)) ds) ∙ nothing_lower ds y
 
 -- the same set of literals stands in the list
@@ -120,19 +122,23 @@ lowest_is_in cs (d ∷ ds) x h k = lowest_is_in cs ds (if is_proper_part d x the
     by true = h.0
     by false = k
 
-none_same : (xs : List Clause) (c x : Clause) → is_same_set c x ≡ true → list_any (λ d. is_same_set d x) xs ≡ false → list_any (λ d. is_same_set d c) xs ≡ false
+none_same : (xs : List Clause) (c x : Clause) → is_same_set c x ≡ true → list_any (λ d. is_same_set d x) xs ≡ false
+    → list_any (λ d. is_same_set d c) xs ≡ false
 none_same [] c x s h = refl
 none_same (d ∷ ds) c x s h =
     let here : is_same_set d c ≡ false = is_false (is_same_set d c)
-        (λ e. let z : true ≡ false = sym (same_through d c x e s) ∙ or_left_false (is_same_set d x) (list_any (λ e. is_same_set e x) ds) h in cc z) in
-    (λ i. here i || list_any (λ e. is_same_set e c) ds) ∙ none_same ds c x s (or_right_false (is_same_set d x) (list_any (λ e. is_same_set e x) ds) h)
+    (λ e. let z : true ≡ false = sym (same_through d c x e s) ∙ or_left_false (is_same_set d x) (list_any (λ e. is_same_set e x) ds) h in cc z) in
+    (λ i. here i || list_any (λ e. is_same_set e c) ds)
+    ∙ none_same ds c x s (or_right_false (is_same_set d x) (list_any (λ e. is_same_set e x) ds) h)
 
-none_proper : (xs : List Clause) (c x : Clause) → is_part c x ≡ true → list_any (λ d. is_proper_part d x) xs ≡ false → list_any (λ d. is_proper_part d c) xs ≡ false
+none_proper : (xs : List Clause) (c x : Clause) → is_part c x ≡ true → list_any (λ d. is_proper_part d x) xs ≡ false
+    → list_any (λ d. is_proper_part d c) xs ≡ false
 none_proper [] c x s h = refl
 none_proper (d ∷ ds) c x s h =
     let here : is_proper_part d c ≡ false = is_false (is_proper_part d c)
-        (λ e. let z : true ≡ false = sym (proper_of_part d c x e s) ∙ or_left_false (is_proper_part d x) (list_any (λ e. is_proper_part e x) ds) h in cc z) in
-    (λ i. here i || list_any (λ e. is_proper_part e c) ds) ∙ none_proper ds c x s (or_right_false (is_proper_part d x) (list_any (λ e. is_proper_part e x) ds) h)
+    (λ e. let z : true ≡ false = sym (proper_of_part d c x e s) ∙ or_left_false (is_proper_part d x) (list_any (λ e. is_proper_part e x) ds) h in cc z) in
+    (λ i. here i || list_any (λ e. is_proper_part e c) ds)
+    ∙ none_proper ds c x s (or_right_false (is_proper_part d x) (list_any (λ e. is_proper_part e x) ds) h)
 
 module _ (w : World) (env loc : List Value) where
   abbrev some : Clause → Bool
@@ -194,7 +200,8 @@ same_truths false false f g = refl
 
 pub minimising_keeps : MinimisingKeeps
 minimising_keeps w env loc cs =
-    same_truths (all_hold w env loc (minimised cs)) (all_hold w env loc cs) (λ h. each_holds w env loc cs cs h (all_in cs)) (λ h. some_stay w env loc cs [] cs h)
+    same_truths (all_hold w env loc (minimised cs)) (all_hold w env loc cs) (λ h. each_holds w env loc cs cs h (all_in cs))
+    (λ h. some_stay w env loc cs [] cs h)
 
 -- and nothing is added
 among_all : (cs : List Clause) → Each (λ c. IsAmong c cs) cs

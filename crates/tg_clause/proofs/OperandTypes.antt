@@ -1,6 +1,6 @@
 -- The operands by which a term of type bool is taken apart are of type bool.
-use Rattle.std.proofs.Common.{◌≡◌, ◌||◌, Bool, true, false, List, [], ◌∷◌, inl, inr, refl, sym, ◌∙◌, subst}
-use Rattle.tg_model.specs.Tree.{Tree, Trees, bound, free, literal, truth, con, call, put, choice, case, bind, op, one, two, Operator, successor, negation, conjunction, disjunction, implication, equality, less, less_equal, plus, minus, times, divide, modulo, unnamed}
+use Rattle.std.proofs.Common.{◌≡◌, ◌||◌, Bool, true, false, List, [], ◌∷◌, inl, inr, refl, sym, ◌∙◌}
+use Rattle.tg_model.specs.Tree.{Tree, bound, free, literal, truth, con, call, put, choice, case, bind, op, one, two, Operator, successor, negation, conjunction, disjunction, implication, equality, less, less_equal, plus, minus, times, divide, modulo, unnamed}
 use Rattle.tg_model.specs.Types.{Ty, bool}
 use Rattle.tg_model.specs.Theory.{Theory}
 use Rattle.tg_model.specs.TermTyping.{Typing, leaf, instanced, compound, branching, binding, type_of, types_of, IsOperation, IsTyping, IsTyped}
@@ -35,7 +35,8 @@ module _ (th : Theory) (vars locs : List Ty) where
   operand a (d, h, e) = unary th vars locs negation a d h (λ x p r. (x, p, one_type (type_of x) bool r.0))
 
   pub operands : (o : Operator) (a b : Tree) → TakesTwo o → Typed (op o (two a b)) bool → Typed a bool × Typed b bool
-  operands o a b takes (d, h, e) = binary th vars locs o a b d h (λ x y p q r. let k = takes (type_of x) (type_of y) (type_of d) r in ((x, p, k.0), (y, q, k.1)))
+  operands o a b takes (d, h, e) =
+      binary th vars locs o a b d h (λ x y p q r. let k = takes (type_of x) (type_of y) (type_of d) r in ((x, p, k.0), (y, q, k.1)))
 
   connected : (o : Operator) (ts : List Ty) (a : Ty) → is_connective o ≡ true → IsOperation o ts a → a ≡ bool
   connected negation ts a e h = h.1

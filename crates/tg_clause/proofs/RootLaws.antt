@@ -1,5 +1,5 @@
 -- How a term is taken apart, by the number of its operator and of its operands.
-use Rattle.std.proofs.Common.{ℕ, zero, suc, ◌≡◌, ◌≢◌, ◌+◌, ◌<◌, ◌&&◌, ◌||◌, Bool, true, false, List, [], ◌∷◌, length, Some, None, refl, ap, sym, ◌∙◌, arith, subst, le-leb}
+use Rattle.std.proofs.Common.{ℕ, zero, suc, ◌≡◌, ◌≢◌, ◌<◌, ◌&&◌, ◌||◌, Bool, true, false, List, [], ◌∷◌, length, Some, refl, ap, sym, ◌∙◌, arith, subst, le-leb}
 use Rattle.std.specs.Prelude.{slice_get, nat_le, if◌then◌else◌}
 use Rattle.std.proofs.lemmas.Bool.{lt-leb}
 use Rattle.tg_model.specs.Tree as tree
@@ -7,10 +7,9 @@ use Rattle.tg_model.specs.Tree.{Tree, Trees, op, one, two, trees, Operator, succ
 use Rattle.tg_term.specs.Measures.{height, heights}
 use Rattle.tg_term.specs.Operators.{operator}
 use Rattle.tg_term.specs.View.{operator-inj}
-use Rattle.tg_clause.specs.Clauses.{Sides, sides, all_sides, of_operation, of_atom, of_conjunction, of_disjunction, of_implication, of_equality, turned, some_boolean_shaped, is_boolean_shaped, is_connective}
+use Rattle.tg_clause.specs.Clauses.{Sides, sides, all_sides, of_operation, of_atom, of_conjunction, of_disjunction, of_implication, of_equality, turned, is_boolean_shaped, is_connective}
 use Rattle.tg_clause.specs.Roots.{sides_by, IsBelow}
 use Rattle.tg_clause.specs.declared.roots.Root.{Root}
-use Rattle.tg_clause.specs.declared.roots.Root.TheVariants as roots
 
 -- another operator, or another number of operands
 other_unary : (p : Operator) (t : Tree) (x : Sides) → p ≢ negation → of_operation p (one t) (x ∷ []) ≡ of_atom (op p (one t))

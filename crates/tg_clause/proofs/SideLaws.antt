@@ -1,17 +1,16 @@
 -- Lists of clauses and their lengths, and the sides that operators make of their operands'.
-use Rattle.std.proofs.Common.{ℕ, zero, suc, ◌≡◌, ◌+◌, ◌*◌, ◌<◌, ◌≤◌, ◌&&◌, Bool, true, false, not, List, [], ◌∷◌, ◌++◌, length, map, refl, ap, sym, ◌∙◌, arith, subst, le-leb, zero-mul, suc-mul}
+use Rattle.std.proofs.Common.{ℕ, ◌≡◌, ◌+◌, ◌*◌, ◌<◌, ◌≤◌, ◌&&◌, Bool, true, false, not, List, [], ◌∷◌, ◌++◌, length, map, refl, ap, sym, ◌∙◌, arith, subst, le-leb, zero-mul, suc-mul}
 use Rattle.std.specs.Prelude.{nat_le}
 use Rattle.std.proofs.lemmas.Bool.{lt-leb}
-use Rattle.std.specs.List.{flat_map, filter}
+use Rattle.std.specs.List.{filter}
 use Rattle.std.proofs.lemmas.List.{length-append, length-map, map-append}
 use Rattle.tg_clause.specs.declared.literals.Clause as declared
 use Rattle.tg_clause.specs.declared.sides.Sides as code
-use Rattle.tg_clause.specs.declared.sides.Asked.{Asked}
-use Rattle.tg_clause.specs.declared.sides.Asked.TheVariants.{Positive, Negative, Both}
+use Rattle.tg_clause.specs.declared.sides.Asked.TheVariants.{Positive}
 use Rattle.tg_clause.specs.declared.errors.ClauseErr.{ClauseErr}
 use Rattle.tg_clause.specs.declared.errors.ClauseErr.TheVariants.{Clauses, Memory}
-use Rattle.tg_clause.specs.Answers.{literals, side_of, sides_of, unasked, asked, both_fit, IsExcess}
-use Rattle.tg_clause.specs.Clauses.{Clause, Side, Sides, made, beside, times, product, joined, turned, of_conjunction, of_disjunction, of_implication, of_equality, is_tautology}
+use Rattle.tg_clause.specs.Answers.{literals, side_of, sides_of, asked, both_fit, IsExcess}
+use Rattle.tg_clause.specs.Clauses.{Clause, Side, Sides, made, beside, times, product, joined, is_tautology}
 
 -- whether a list fits
 few : (m n : ℕ) → m ≤ n → (nat_le m n && true) ≡ true

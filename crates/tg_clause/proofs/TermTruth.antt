@@ -1,8 +1,8 @@
 -- A term of type bool is True exactly where its clauses hold.
-use Rattle.std.proofs.Common.{◌≡◌, Bool, true, false, not, ◌&&◌, ◌||◌, List, [], ◌∷◌, map, refl, ap, sym, ◌∙◌, inl, inr}
+use Rattle.std.proofs.Common.{◌≡◌, Bool, true, false, not, ◌&&◌, ◌||◌, List, [], ◌∷◌, refl, ap, sym, ◌∙◌, inl, inr}
 use Rattle.std.specs.Prelude.{cond}
-use Rattle.std.specs.List.{list_any, list_all, filter}
-use Rattle.tg_model.specs.Tree.{Tree, truth, op, one, two, negation, conjunction, disjunction, implication, equality}
+use Rattle.std.specs.List.{list_any, filter}
+use Rattle.tg_model.specs.Tree.{Tree, negation, conjunction, disjunction, implication, equality}
 use Rattle.tg_model.specs.Types.{bool}
 use Rattle.tg_model.specs.Value.{Value, boolean, same_truth, same_value}
 use Rattle.tg_model.specs.Theory.{Theory}
@@ -13,10 +13,9 @@ use Rattle.tg_model.proofs.Booleans.{or_cases, or_left_false, or_right_false}
 use Rattle.tg_rows.specs.Laws.{Setting}
 use Rattle.tg_rows.proofs.Settings.{boolean_value}
 use Rattle.tg_clause.specs.declared.literals.Literal.{Literal}
-use Rattle.tg_clause.specs.Clauses.{Clause, Sides, sides, said, opposite, has, same_literal, is_tautology, clauses_of}
+use Rattle.tg_clause.specs.Clauses.{Clause, Sides, sides, opposite, has, is_tautology}
 use Rattle.tg_clause.specs.Truth.{truth_at, holds, clause_holds, all_hold}
 use Rattle.tg_clause.specs.Laws.{ClausesAreTrue}
-use Rattle.tg_clause.proofs.LiteralLaws.{same_is}
 use Rattle.tg_clause.proofs.OperandTypes.{operand, operands, sides_of_equation, conjunction_takes, disjunction_takes, implication_takes}
 use Rattle.tg_clause.proofs.SideFold.{Fold, sides_by}
 use Rattle.tg_clause.proofs.TruthLaws.{has_holds, Mean, mean_as, mean_atom, mean_truth, mean_turned, mean_conjunction, mean_disjunction, mean_implication, mean_equality}
@@ -64,20 +63,36 @@ module _ (th : Theory) (wt : IsWellTyped th) (n : Setting th) where
         (k, λ x h. mean_as w n.env n.loc _ (not (true_ a)) _ (not_value _ v.0 v.1) (mean_turned w n.env n.loc x (true_ a) h));
     conjunctions = λ a b q.
         let k = operands th n.vars n.locs conjunction a b (conjunction_takes th n.vars n.locs) q in
-        let v = boolean_value th wt n a k.0 in let u = boolean_value th wt n b k.1 in
-        (k.0, k.1, λ x y h j. mean_as w n.env n.loc _ (true_ a && true_ b) _ (and_value _ _ v.0 u.0 v.1 u.1) (mean_conjunction w n.env n.loc x y (true_ a) (true_ b) h j));
+        let v = boolean_value th wt n a k.0 in let u = boolean_value th wt n b k.1 in (
+          k.0,
+          k.1,
+          λ x y h j. mean_as w n.env n.loc _ (true_ a && true_ b) _ (and_value _ _ v.0 u.0 v.1 u.1)
+              (mean_conjunction w n.env n.loc x y (true_ a) (true_ b) h j),
+        );
     disjunctions = λ a b q.
         let k = operands th n.vars n.locs disjunction a b (disjunction_takes th n.vars n.locs) q in
-        let v = boolean_value th wt n a k.0 in let u = boolean_value th wt n b k.1 in
-        (k.0, k.1, λ x y h j. mean_as w n.env n.loc _ (true_ a || true_ b) _ (or_value _ _ v.0 u.0 v.1 u.1) (mean_disjunction w n.env n.loc x y (true_ a) (true_ b) h j));
+        let v = boolean_value th wt n a k.0 in let u = boolean_value th wt n b k.1 in (
+          k.0,
+          k.1,
+          λ x y h j. mean_as w n.env n.loc _ (true_ a || true_ b) _ (or_value _ _ v.0 u.0 v.1 u.1)
+              (mean_disjunction w n.env n.loc x y (true_ a) (true_ b) h j),
+        );
     implications = λ a b q.
         let k = operands th n.vars n.locs implication a b (implication_takes th n.vars n.locs) q in
-        let v = boolean_value th wt n a k.0 in let u = boolean_value th wt n b k.1 in
-        (k.0, k.1, λ x y h j. mean_as w n.env n.loc _ (not (true_ a) || true_ b) _ (implied_value _ _ v.0 u.0 v.1 u.1) (mean_implication w n.env n.loc x y (true_ a) (true_ b) h j));
+        let v = boolean_value th wt n a k.0 in let u = boolean_value th wt n b k.1 in (
+          k.0,
+          k.1,
+          λ x y h j. mean_as w n.env n.loc _ (not (true_ a) || true_ b) _ (implied_value _ _ v.0 u.0 v.1 u.1)
+              (mean_implication w n.env n.loc x y (true_ a) (true_ b) h j),
+        );
     equations = λ a b e q.
         let k = sides_of_equation th n.vars n.locs a b e q in
-        let v = boolean_value th wt n a k.0 in let u = boolean_value th wt n b k.1 in
-        (k.0, k.1, λ x y h j. mean_as w n.env n.loc _ (same_truth (true_ a) (true_ b)) _ (equal_value _ _ v.0 u.0 v.1 u.1) (mean_equality w n.env n.loc x y (true_ a) (true_ b) h j));
+        let v = boolean_value th wt n a k.0 in let u = boolean_value th wt n b k.1 in (
+          k.0,
+          k.1,
+          λ x y h j. mean_as w n.env n.loc _ (same_truth (true_ a) (true_ b)) _ (equal_value _ _ v.0 u.0 v.1 u.1)
+              (mean_equality w n.env n.loc x y (true_ a) (true_ b) h j),
+        );
   }
 
   pub term_means : (t : Tree) → IsTyped th n.vars n.locs t bool → Mean (world th n.table) n.env n.loc (sides t) (truth_at (world th n.table) n.env n.loc t)

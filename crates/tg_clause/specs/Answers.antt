@@ -1,6 +1,5 @@
 -- What the program answers of clauses.
-use Rattle.std.specs.Prelude.{◌≡◌, Bool, true, false, ◌&&◌, List, [], ◌∷◌, map, Result, Ok, Err}
-use Rattle.tg_clause.specs.declared.literals.Literal.{Literal}
+use Rattle.std.specs.Prelude.{◌≡◌, Bool, true, false, ◌&&◌, List, [], map}
 use Rattle.tg_clause.specs.declared.literals.Clause as declared
 use Rattle.tg_clause.specs.declared.sides.Sides as code
 use Rattle.tg_clause.specs.declared.sides.Asked.{Asked}

@@ -1,5 +1,5 @@
 -- The class of a clause: what is known of its inputs, and what the specification says of the program there.
-use Rattle.std.specs.Prelude.{◌≡◌, Bool, true, false, not, List, [], map, if◌then◌else◌}
+use Rattle.std.specs.Prelude.{◌≡◌, not, List, map, if◌then◌else◌}
 use Rattle.std.specs.List.{filter}
 use Rattle.tg_model.specs.Tree.{Tree, op, one, negation}
 use Rattle.tg_model.specs.Calls.{has_call}

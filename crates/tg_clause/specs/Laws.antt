@@ -1,6 +1,6 @@
 -- The laws of clauses: what they say of the term, what their atoms inherit from it, what a class says of its clause, and at which
 -- inputs the program is called in checks.
-use Rattle.std.specs.Prelude.{Bool, true, false, ◌≡◌, ◌↔◌, List, []}
+use Rattle.std.specs.Prelude.{true, false, ◌≡◌, ◌↔◌, List, []}
 use Rattle.tg_model.specs.Tree.{Tree, op, two, implication}
 use Rattle.tg_model.specs.Types.{Ty, bool}
 use Rattle.tg_model.specs.Value.{Value, boolean}
