@@ -3,9 +3,9 @@ use Rattle.std.proofs.Common.{◌≡◌, Bool, true, false, not, ◌&&◌, ◌||
 use Rattle.std.specs.List.{list_all}
 use Rattle.std.proofs.lemmas.List.Folds.{list_all-append}
 use Rattle.std.proofs.lemmas.Option.{same_Some}
-use Rattle.tg_model.specs.Tree.{Tree, op, one, two, negation, implication}
-use Rattle.tg_model.specs.Types.{Ty, bool}
-use Rattle.tg_model.specs.Value.{Value, number, boolean, made, same_value}
+use Rattle.tg_model.specs.Tree.{Tree, one, negation, implication}
+use Rattle.tg_model.specs.Types.{bool}
+use Rattle.tg_model.specs.Value.{Value, boolean, same_value}
 use Rattle.tg_model.specs.Theory.{Theory}
 use Rattle.tg_model.specs.Denotation.{operated, den}
 use Rattle.tg_model.specs.TermTyping.{IsTyped}
@@ -18,7 +18,7 @@ use Rattle.tg_accept.specs.Checks.{Each}
 use Rattle.tg_rows.specs.Laws.{Setting, HaveValues}
 use Rattle.tg_rows.specs.Rows.{denied}
 use Rattle.tg_rows.proofs.Settings.{boolean_value, op_one, op_two}
-use Rattle.tg_norm.specs.Normal.{Walked, Norm}
+use Rattle.tg_norm.specs.Normal.{Walked}
 use Rattle.tg_norm.specs.Halves.{condition_of, replaced}
 use Rattle.tg_norm.specs.Splits.{Splits, leaf, inner, implied, IsForm}
 use Rattle.tg_norm.specs.Laws.{has_let, truth_at, SplitsKeep, IsOneSplit}
@@ -159,8 +159,8 @@ module _ (th : Theory) (wt : IsWellTyped th) (n : Setting th) where
       ∙ (λ i. (not (is_true (p.1 i)) || a.1 i) && (not (denied_value (value q) p.0 p.1 i) || b.1 i)) in
       subst (Kept t) (sym e) (
         each_append Typed (map (implied q) ms) (map (implied (denied q)) ns)
-        (each_map Typed Typed (implied q) (λ m r. implied_typed q m k r) ms a.0)
-        (each_map Typed Typed (implied (denied q)) (λ m r. implied_typed (denied q) m j r) ns b.0),
+            (each_map Typed Typed (implied q) (λ m r. implied_typed q m k r) ms a.0)
+            (each_map Typed Typed (implied (denied q)) (λ m r. implied_typed (denied q) m j r) ns b.0),
         all ∙ by p.0 p.1 (λ r. half_true t q u true f k h r) (λ r. half_true t q v false g k h r),
       )
     where
@@ -207,11 +207,11 @@ module _ (th : Theory) (accepted : IsAccepted th) (n : Setting th) (d : List Val
       let j = denied_typed th wt n q k in
       let own : Good q = condition_good (HaveValues th n.table n.env d) t q c g in
       let left : Each (λ m. Known q → X m) ms = each_under (Known q) X ms (λ r.
-          splits_carry term under (replaced q true t) u ms f x (form_typed th wt n (replaced q true t) u f (half_typed th wt n t q true k h))
-          (form_inputs (replaced q true t) u f (half_good th n.table n.env d q true r t g))) in
+      splits_carry term under (replaced q true t) u ms f x (form_typed th wt n (replaced q true t) u f (half_typed th wt n t q true k h))
+      (form_inputs (replaced q true t) u f (half_good th n.table n.env d q true r t g))) in
       let right : Each (λ m. Known (denied q) → X m) ns = each_under (Known (denied q)) X ns (λ r.
-          splits_carry term under (replaced q false t) v ns f' y (form_typed th wt n (replaced q false t) v f' (half_typed th wt n t q false k h))
-          (form_inputs (replaced q false t) v f' (half_good th n.table n.env d q false (not_known q k r) t g))) in
+      splits_carry term under (replaced q false t) v ns f' y (form_typed th wt n (replaced q false t) v f' (half_typed th wt n t q false k h))
+      (form_inputs (replaced q false t) v f' (half_good th n.table n.env d q false (not_known q k r) t g))) in
       subst (Each X) (sym e)
       (each_append X (map (implied q) ms) (map (implied (denied q)) ns)
       (each_map (λ m. Known q → X m) X (implied q) (λ m r. under q m k own r) ms left)
