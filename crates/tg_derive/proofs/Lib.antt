@@ -1,0 +1,12 @@
+pub mod GoalLaws
+pub mod WorkLaws
+pub mod ListingLaws
+pub mod OneAnswer
+pub mod EachLaws
+pub mod TreeLaws
+pub mod BothWays
+pub mod ClassTypes
+pub mod ClassInputs
+pub mod TheoremLaws
+pub mod HypothesisLaws
+pub mod KnownClasses

@@ -1,0 +1,40 @@
+//! The classes of a theory's inputs to a depth. They are defined in `specs/Classes.antt`, with the order of work and its limits
+//! in `specs/Work.antt`. Two functions have no code, and their contracts are the laws.
+#![tactic(auto)]
+
+mod budgets;
+mod errors;
+mod goals;
+mod listing;
+mod theorems;
+mod working;
+
+ghost use Rattle.tg_derive.specs.Laws.{IsOneAnswer, ClassesAreOfTrees, ClassesCover, ClassesAreTyped, ConstraintsHaveNoCall, CallsAreAtInputs, TheoremIsTrue, AssumptionsAreNecessary};
+
+pub use errors::LimitErr;
+pub use listing::classes;
+pub use theorems::{Choice, Hypothesis, Label, hypotheses};
+
+/// The work on a theory to a depth comes to one answer: its classes, or the first limit that it passes. The classes are
+/// those of the split trees of the patterns, classes of the theory, and their constraints don't call the program.
+pub fn derivation()
+    ensures one { IsOneAnswer }
+    ensures trees { ClassesAreOfTrees }
+    ensures typed { ClassesAreTyped }
+    ensures no_call { ConstraintsHaveNoCall }
+{}
+
+/// At inputs that aren't deeper than the depth the specification is True exactly where all classes are, on each table,
+/// and at deeper ones all classes are true where it is. At a member of a class the program calls in its checks are on
+/// that member's inputs.
+pub fn coverage()
+    ensures both_ways { ClassesCover }
+    ensures inputs { CallsAreAtInputs }
+{}
+
+/// The test theorem is true on every table, and what no test shows follows from the specification there: each uniformity,
+/// each open class and the regularity.
+pub fn truth()
+    ensures theorem { TheoremIsTrue }
+    ensures necessary { AssumptionsAreNecessary }
+{}
