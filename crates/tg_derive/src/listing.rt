@@ -8,6 +8,8 @@ ghost use Rattle.tg_derive.specs.Work.{done, Work};
 ghost use Rattle.tg_derive.specs.Working.{AreAdded};
 ghost use Rattle.tg_hyps.specs.Hypotheses.{seen};
 ghost use Rattle.tg_split.specs.Listing.{pattern};
+ghost use Rattle.tg_split.specs.Patterns.{patterns};
+ghost use Rattle.tg_split.specs.Sizes.{counted};
 
 use crate::budgets::Left;
 use crate::errors::LimitErr;
@@ -32,12 +34,29 @@ pub fn classes(alloc: Global, th: &Theory, depth: u8) -> Result<Vec<Class>, Limi
     ensures classes { IfOk result (λ cs. AreClasses th.now depth (map seen cs.items)) }
     ensures limit { IfErr result (Stops (Derived th.now depth)) }
 {
-    if count(th, depth) > MAX_PATTERNS {
+    if number_of_patterns(th, depth) > MAX_PATTERNS {
         return Err(LimitErr::Patterns);
     }
-    let ps = patterns(alloc, th, depth)?;
+    let ps = all_patterns(alloc, th, depth)?;
     let cs = classes_at(alloc, th, ps.as_slice())?;
     Ok(cs)
+}
+
+/// The number of the patterns. It stands apart, so that the tables that are kept while patterns are counted aren't on the
+/// stack while the classes are made.
+#[inline(never)]
+fn number_of_patterns(th: &Theory, depth: u8) -> u64
+    ensures { result ≡ counted (patterns th.now depth) }
+{
+    count(th, depth)
+}
+
+/// The patterns, apart for the same reason.
+#[inline(never)]
+fn all_patterns(alloc: Global, th: &Theory, depth: u8) -> Result<Vec<Pattern>, AllocError>
+    ensures { IfOk result (λ ps. map pattern ps.items ≡ patterns th.now depth) }
+{
+    patterns(alloc, th, depth)
 }
 
 /// The classes of the patterns.
