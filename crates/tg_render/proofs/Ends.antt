@@ -1,6 +1,7 @@
 -- The last byte of a text.
-use Rattle.std.proofs.Common.{◌≡◌, ℕ, ◌-◌, List, [], ◌∷◌, ◌++◌, length, slice_get, false, Some, None, refl, ap, ◌∙◌, arith}
-use Rattle.tg_render.specs.Render.{last_or, is_apart}
+use Rattle.std.proofs.Common.{◌≡◌, ℕ, ◌-◌, List, [], ◌∷◌, ◌++◌, length, slice_get, true, false, Some, None, refl, sym, ap, ◌∙◌, arith, append_assoc}
+use Rattle.std.specs.Prelude.{if◌then◌else◌, codes}
+use Rattle.tg_render.specs.Render.{last_or, is_apart, put}
 
 last_at : (b : ℕ) (bs : List ℕ) → slice_get (b ∷ bs) (length bs) ≡ Some (last_or b bs)
 last_at b [] = refl
@@ -32,4 +33,12 @@ pub apart-nothing : (before : ℕ) (text : List ℕ) → slice_get text 0 ≡ No
 apart-nothing before [] e = refl
 apart-nothing before (c ∷ text) e = absurd cc
 
-pub ruleset ends = (last-some, last-none, apart-first, apart-nothing)
+pub put-apart : (out text : List ℕ) → is_apart (last_or 10 out) text ≡ true → (out ++ 32 ∷ []) ++ text ≡ put out text
+unfolding put
+put-apart out text e = append_assoc out (32 ∷ []) text ∙ ap (λ b. out ++ ((if b then codes " " else []) ++ text)) (sym e)
+
+pub put-near : (out text : List ℕ) → is_apart (last_or 10 out) text ≡ false → out ++ text ≡ put out text
+unfolding put
+put-near out text e = ap (λ b. out ++ ((if b then codes " " else []) ++ text)) (sym e)
+
+pub ruleset ends = (last-some, last-none, apart-first, apart-nothing, put-apart, put-near)

@@ -32,12 +32,14 @@ last_behind_gap before [] = refl
 last_behind_gap before (c ∷ cs) = refl
 
 last_put : (out text : List ℕ) → last_or 10 (put out text) ≡ last_or (last_or 10 out) text
+unfolding put
 last_put out text =
     last-append 10 out (gap (last_or 10 out) text ++ text)
     ∙ last-append (last_or 10 out) (gap (last_or 10 out) text) text
     ∙ last_behind_gap (last_or 10 out) text
 
 written-spaced : (out : List ℕ) (ts : List Seen) → written out ts ≡ out ++ spaced (last_or 10 out) ts
+unfolding put
 written-spaced out [] = sym (append-nil out)
 written-spaced out (t ∷ ts) =
     let l = last_or 10 out in

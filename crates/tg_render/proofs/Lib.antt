@@ -1,4 +1,5 @@
 pub mod Ends
+pub mod Writing
 mod Bytes
 mod Longest
 pub mod Forward

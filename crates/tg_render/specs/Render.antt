@@ -26,7 +26,7 @@ abbrev pub gap : ℕ → List ℕ → List ℕ
 gap before text = if is_apart before text then codes " " else []
 
 -- a token's text behind what is written
-abbrev pub put : List ℕ → List ℕ → List ℕ
+unfoldable pub put : List ℕ → List ℕ → List ℕ
 put out text = out ++ (gap (last_or 10 out) text ++ text)
 
 -- tokens behind what is written

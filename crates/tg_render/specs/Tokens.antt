@@ -29,11 +29,15 @@ abbrev pub joined : List (List Seen) → List Seen
 joined [] = []
 joined (ts ∷ tss) = ts ++ joined tss
 
+-- the same with a token before each
+abbrev pub continued : Seen → List (List Seen) → List Seen
+continued t [] = []
+continued t (ts ∷ tss) = t ∷ (ts ++ continued t tss)
+
 -- the same with a token between two of them
 abbrev pub divided : Seen → List (List Seen) → List Seen
 divided t [] = []
-divided t (ts ∷ []) = ts
-divided t (ts ∷ us ∷ tss) = ts ++ t ∷ divided t (us ∷ tss)
+divided t (ts ∷ tss) = ts ++ continued t tss
 
 -- a head alone, or in brackets with its arguments
 abbrev pub application : Seen → List (List Seen) → List Seen

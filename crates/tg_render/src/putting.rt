@@ -6,6 +6,7 @@ use std::alloc::AllocError;
 
 /// Writes a token behind what is written, with a space between them where one stands there. Where memory runs out,
 /// the space may be written alone.
+#[tactic(auto, using(crate::proofs::Ends::ends))]
 pub fn put_token(out: &mut Vec<u8>, text: &[u8]) -> Result<(), AllocError>
     ensures { OnOk result (out.new.items ≡ put out.old.items text.now) }
 {
