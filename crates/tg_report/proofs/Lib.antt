@@ -1,0 +1,17 @@
+mod Lists
+mod Chains
+mod TypeLaws
+mod ValueLaws
+mod OperatorLaws
+mod TermLaws
+mod FormulaLaws
+mod ClassLaws
+mod KnownTexts
+mod NameWords
+mod ProperTokens
+mod TypeReading
+mod ValueReading
+mod TermShapes
+mod BinderShapes
+mod TermReading
+mod FormulaReading

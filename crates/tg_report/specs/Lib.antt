@@ -1,0 +1,12 @@
+pub mod Words
+pub mod Names
+pub mod TypeTexts
+pub mod ValueTexts
+pub mod TermTexts
+pub mod FormulaTexts
+pub mod ClassTexts
+pub mod RawTypes
+pub mod RawValues
+pub mod RawTerms
+pub mod RawFormulas
+pub mod ReadBack
