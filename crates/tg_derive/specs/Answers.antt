@@ -47,7 +47,7 @@ abbrev pub stacked : List Tree → Tree → Tree → Goal
 stacked qs q t = record { conditions = qs ++ q ∷ []; term = t }
 
 abbrev pub choice_of : code_choice.Choice → Choice
-choice_of (Tested vs) = Some (map value vs.items)
+choice_of (Tested vs) = Some (map value vs)
 choice_of Assumed = None
 
 abbrev pub label_of : code_label.Label → Label

@@ -1,5 +1,5 @@
 //! The classes of a theory's inputs to a depth. They are defined in `specs/Classes.antt`, with the order of work and its limits
-//! in `specs/Work.antt`. Two functions have no code, and their contracts are the laws.
+//! in `specs/Work.antt`. Three functions have no code, and their contracts are the laws.
 #![tactic(auto)]
 
 mod budgets;

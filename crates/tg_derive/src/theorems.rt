@@ -4,6 +4,7 @@ ghost use Rattle.tg_derive.specs.Theorem.{labelled, hypotheses_of, of_class, of_
 ghost use Rattle.tg_derive.specs.Answers.{choice_of, label_of, hypothesis};
 ghost use Rattle.tg_hyps.specs.Hypotheses.{seen};
 
+use sqlite_items::Items;
 use std::alloc::{AllocError, Global};
 use tg_hyps::{open_class, regularity, test, uniformity};
 use tg_term::{Class, Formula, Value};
@@ -13,7 +14,7 @@ use tg_theory::Theory;
 #[derive(Debug, Drop)]
 pub enum Choice {
     /// It is tested at these values of its variables, that of `Free(1)` first.
-    Tested(Vec<Value>),
+    Tested(Items<Value>),
     /// It is assumed to be true.
     Assumed,
 }

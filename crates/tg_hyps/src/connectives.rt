@@ -14,7 +14,7 @@ const DISJUNCTION: OpId = 4;
 
 /// The disjunction of the terms, grouped to the right, and False without terms.
 #[tactic(auto, using(crate::proofs::EndLaws::ends))]
-pub(crate) fn any_of(alloc: Global, ts: &[Term]) -> Result<Term, AllocError>
+pub fn any_of(alloc: Global, ts: &[Term]) -> Result<Term, AllocError>
     ensures { IfOk result (λ t. t ≡ some_of ts.now) }
 {
     let Some((last, others)) = ts.split_last() else {

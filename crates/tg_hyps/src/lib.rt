@@ -15,6 +15,7 @@ ghost use Rattle.tg_hyps.specs.Meaning.{OpenClassIsOfMembers, UniformityIsOfMemb
 ghost use Rattle.tg_hyps.specs.Meaning.{ClassesAreWellFormed, TestsAreWellFormed, ConclusionIsWellFormed, RegularityIsWellFormed};
 
 pub use classes::{open_class, test, uniformity};
+pub use connectives::any_of;
 pub use theories::{conclusion, regularity};
 
 /// What the formulas say on a table of a well-typed theory. The open class: the class is true at each tested

@@ -7,7 +7,6 @@ use Rattle.tg_model.specs.Types.{Ty, nat, bool, parameter, meta, applied}
 use Rattle.tg_model.specs.Typing.{AreTyped}
 use Rattle.tg_model.specs.Value.{Value}
 use Rattle.rand_pcg.specs.Lcg.{Lcg}
-use Rattle.tg_term.specs.Classes.{variables_of}
 use Rattle.tg_solver.specs.Numbers.{is_truth, as_values, reaching, greatest, assignments, in_order, most_number}
 use Rattle.tg_solver.specs.Draws.{draw, after_draw, draws_from, draws, after_word, generator}
 use Rattle.tg_solver.specs.Candidates.{candidates, satisfies, truths_of}
@@ -64,11 +63,11 @@ module _ (th : Theory) where
   all_draws_typed (t ∷ ts) s tries width g = draws_typed (t ∷ ts) s tries width g
 
 pub data_fit : DataFit
-data_fit th c s index vs e = (
-  (found_passes (satisfies th c.constraints) (λ (ws : List Value). Unit {0}) (candidates (truths_of c) s index) vs (λ k d l. tt) e).0,
-  λ simple. (found_passes (satisfies th c.constraints) (λ ws. AreTyped th ws (variables_of c.pattern)) (candidates (truths_of c) s index) vs
-      (All-append (λ ws. AreTyped th ws (variables_of c.pattern)) (in_order (most_number (length (truths_of c)) s.bound) (truths_of c))
-      (draws s.tries s.width (truths_of c) (generator s.seed index))
-      (order_typed th (variables_of c.pattern) simple (most_number (length (truths_of c)) s.bound))
-      (all_draws_typed th (variables_of c.pattern) simple s.tries s.width (generator s.seed index))) e).1,
+data_fit th ts constraints s index vs e = (
+  (found_passes (satisfies th constraints) (λ (ws : List Value). Unit {0}) (candidates (truths_of ts) s index) vs (λ k d l. tt) e).0,
+  λ simple. (found_passes (satisfies th constraints) (λ ws. AreTyped th ws ts) (candidates (truths_of ts) s index) vs
+      (All-append (λ ws. AreTyped th ws ts) (in_order (most_number (length (truths_of ts)) s.bound) (truths_of ts))
+      (draws s.tries s.width (truths_of ts) (generator s.seed index))
+      (order_typed th ts simple (most_number (length (truths_of ts)) s.bound))
+      (all_draws_typed th ts simple s.tries s.width (generator s.seed index))) e).1,
 )

@@ -16,6 +16,7 @@ use Rattle.tg_types.specs.declared.types.Ty.{Ty}
 use Rattle.tg_types.specs.declared.options.Settings.{Settings}
 use Rattle.tg_solver.specs.Numbers.{is_truth, as_value, as_values, assignments, greatest, last_number, reaching, in_order, most_number}
 use Rattle.tg_solver.specs.Draws.{draw, after_draw, draws_from, draws, generator}
+use Rattle.tg_term.specs.Classes.{variables_of}
 use Rattle.tg_solver.specs.Candidates.{candidates, holds, satisfies, truths_of, first_candidate}
 use Rattle.tg_solver.specs.Walk.{decided_by, stages_from, truths_in, passes, completes, completion, first_completion, first_reaching, first_from, first_after_zeros}
 use Rattle.tg_solver.specs.declared.stages.Stage.{Stage}
@@ -181,8 +182,8 @@ kinds_of (t ∷ ts) = ap (λ bs. is_truth (ty t) ∷ bs) (kinds_of ts)
 -- the candidates of a class, in a theory of any name
 pub of_class : (name : List ℕ) (D : Declared) (th : Theory) (c : Class) (s : Settings) (index : ℕ) (truths : List Bool) (constraints : List Tree) (o : Option (List Value))
     → theory name D ≡ th → truths ≡ map (λ t. is_truth (ty t)) c.pattern.vars → constraints ≡ c.constraints
-    → o ≡ find (satisfies (theory [] D) constraints) (candidates truths s index) → o ≡ first_candidate th c s index
+    → o ≡ find (satisfies (theory [] D) constraints) (candidates truths s index) → o ≡ first_candidate th (variables_of c.pattern) c.constraints s index
 of_class name D th c s index truths constraints o named kinds same e =
     e
     ∙ (λ i. find (λ vars. list_all (unnamed name D i vars) (same i)) (candidates ((kinds ∙ kinds_of c.pattern.vars) i) s index))
-    ∙ ap (λ th. find (satisfies th c.constraints) (candidates (truths_of c) s index)) named
+    ∙ ap (λ th. find (satisfies th c.constraints) (candidates (truths_of (variables_of c.pattern)) s index)) named

@@ -1,12 +1,11 @@
 -- What a datum is good for.
 use Rattle.std.specs.Prelude.{ℕ, true, ◌≡◌, List, [], ◌∷◌, Some}
 use Rattle.tg_model.specs.Theory.{Theory}
+use Rattle.tg_model.specs.Tree.{Tree}
 use Rattle.tg_model.specs.Types.{Ty, nat, bool, parameter, meta, applied}
 use Rattle.tg_model.specs.Typing.{AreTyped}
 use Rattle.tg_model.specs.Value.{Value}
 use Rattle.tg_types.specs.declared.options.Settings.{Settings}
-use Rattle.tg_term.specs.Classes.{variables_of}
-use Rattle.tg_term.specs.declared.classes.Class.{Class}
 use Rattle.tg_solver.specs.Candidates.{satisfies, first_candidate}
 
 -- the naturals and the truth values
@@ -23,5 +22,6 @@ AreSimple (t ∷ ts) = IsSimple t × AreSimple ts
 
 -- A datum satisfies the constraints, and where all variables are naturals or truth values it has one value of each one's type.
 abbrev pub DataFit : Type 0
-DataFit = (th : Theory) (c : Class) (s : Settings) (index : ℕ) (vs : List Value) → first_candidate th c s index ≡ Some vs
-    → (satisfies th c.constraints vs ≡ true) × (AreSimple (variables_of c.pattern) → AreTyped th vs (variables_of c.pattern))
+DataFit = (th : Theory) (variables : List Ty) (constraints : List Tree) (s : Settings) (index : ℕ) (vs : List Value)
+    → first_candidate th variables constraints s index ≡ Some vs
+    → (satisfies th constraints vs ≡ true) × (AreSimple variables → AreTyped th vs variables)

@@ -5,6 +5,7 @@ ghost use Rattle.tg_accept.specs.Declared.{theory};
 ghost use Rattle.tg_solver.specs.Candidates.{candidates, first_candidate, satisfies};
 ghost use Rattle.tg_solver.specs.Numbers.{is_truth, as_value};
 ghost use Rattle.tg_solver.specs.Walk.{first_after_zeros, first_reaching};
+ghost use Rattle.tg_term.specs.Classes.{variables_of};
 ghost use Rattle.tg_term.specs.Values.{value};
 ghost use Rattle.tg_types.specs.Types.{ty};
 
@@ -38,7 +39,7 @@ pub fn datum(
     s: &Settings,
     index: u32,
 ) -> Result<Option<Items<Value>>, AllocError>
-    ensures { IfOk result (λ r. option_map (map value) r ≡ first_candidate th.now c.now s.now index) }
+    ensures { IfOk result (λ r. option_map (map value) r ≡ first_candidate th.now (variables_of c.now.pattern) c.now.constraints s.now index) }
 {
     let truths = truths(alloc, c.pattern.vars.as_slice())?;
     let found = first(
