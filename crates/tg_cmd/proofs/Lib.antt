@@ -1,9 +1,15 @@
 pub mod Choices
 pub mod Completeness
+pub mod OneOutput
+pub mod DataLaws
 pub mod Derivations
 pub mod FormAccepted
 pub mod Forms
 pub mod KnownTexts
+pub mod LineLaws
 pub mod Outputs
+pub mod Promises
+pub mod SimpleVariables
 pub mod Texts
+pub mod TrueTheorems
 pub mod Truths

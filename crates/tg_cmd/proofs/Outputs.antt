@@ -1,147 +1,101 @@
 -- What is read, what is made of it and what a run has to write.
-use Rattle.std.proofs.Common.{ℕ, ◌≡◌, ◌<◌, ◌≤◌, inl, inr, List, [], ◌∷◌, length, get_or, MatchOption, arith, Option, Some, None, Result, Ok, Err, IfOk, refl, sym, ◌∙◌, ap, subst}
-use Rattle.tg_types.specs.declared.options.Settings.{Settings}
-use Rattle.tg_types.specs.declared.verdicts.Verdict.{Verdict}
-use Rattle.tg_types.specs.declared.verdicts.Verdict.TheVariants.{Passed, Failed, Undecided, Raised, Missing, NoDatum}
-use Rattle.tg_lex.specs.declared.token.Token.{Token}
-use Rattle.tg_lex.specs.Grammar.{Reads}
-use Rattle.tg_lex.proofs.Unique.{one_reading as tokens_once}
+use Rattle.std.proofs.Common.{ℕ, ◌≡◌, ◌<◌, ◌≤◌, inl, inr, List, [], ◌∷◌, length, map, get_or, MatchOption, arith, Option, Some, None, Result, Ok, Err, IfOk, sym, ◌∙◌, ap, subst}
+use Rattle.tg_derive.specs.declared.errors.LimitErr.{LimitErr}
+use Rattle.tg_derive.specs.declared.errors.LimitErr.TheVariants as passed
+use Rattle.tg_derive.specs.Answers.{Stops}
+use Rattle.tg_derive.specs.Classes.{Derived}
+use Rattle.tg_derive.specs.Work as work
 use Rattle.tg_grammar.specs.declared.declarations.RawTheory.{RawTheory}
 use Rattle.tg_grammar.specs.declared.outcomes.RawOutcomes.{RawOutcomes}
 use Rattle.tg_grammar.specs.declared.outcomes.RawItem.{RawItem}
-use Rattle.tg_grammar.specs.Seen.{seen}
-use Rattle.tg_grammar.specs.Reading.{IsText}
 use Rattle.tg_grammar.specs.Parts.{Part, Value, Theory}
 use Rattle.tg_grammar.specs.Parts as parts
-use Rattle.tg_grammar.proofs.Readings.{one_value}
+use Rattle.tg_hyps.specs.Hypotheses.{Class}
+use Rattle.tg_infer.specs.declared.errors.TheoryErr.{TheoryErr}
+use Rattle.tg_infer.specs.declared.errors.TheoryErr.TheVariants as theory
+use Rattle.tg_infer.specs.Theories as infer
+use Rattle.tg_infer.specs.View.{raw_declaration}
+use Rattle.tg_lex.specs.declared.token.Token.{Token}
+use Rattle.tg_lex.specs.Grammar.{Reads}
+use Rattle.tg_model.specs.Theory as model
 use Rattle.tg_syntax.specs.declared.parsing.FormErr.{FormErr}
 use Rattle.tg_syntax.specs.declared.parsing.FormErr.TheVariants as errors
 use Rattle.tg_syntax.specs.Parsing.{Parses}
+use Rattle.tg_types.specs.declared.options.Settings.{Settings}
 use Rattle.tg_cmd.specs.declared.answer.Answer.{Answer}
+use Rattle.tg_cmd.specs.declared.answer.LimitName.TheVariants.{Input}
 use Rattle.tg_cmd.specs.declared.command.Command.{Command}
 use Rattle.tg_cmd.specs.declared.command.Command.TheVariants.{Generate, Judge}
-use Rattle.tg_cmd.specs.Form.{Form, HasForm, raw_theory}
-use Rattle.tg_cmd.specs.Outcomes.{raw_item, raw_items, raw_outcomes, AreOutcomes}
-use Rattle.tg_accept.specs.Checks as checks
-use Rattle.tg_accept.specs.Checks.{Kind}
-use Rattle.tg_cmd.specs.Answers.{answer_for, line_for}
-use Rattle.tg_cmd.specs.Reading.{IsTextOf, IsRefusedTheory, ReadsForm, ReadsJudged}
-use Rattle.tg_cmd.specs.Theorem.{has_datum}
-use Rattle.tg_cmd.specs.Verdicts.{verdict, answer_on}
-use Rattle.tg_cmd.specs.Output.{longest, part_of, theory_of, IsOther, HasTheoryFault, IsDeclined, IsJudgement, IsOutput, IsReportOf, IsJudgementOf, IsFaultLine, HasTokenLine}
-use Rattle.tg_cmd.proofs.FormAccepted.{form_accepted}
-use Rattle.tg_cmd.proofs.Forms.{one_form, one_record}
-use Rattle.tg_cmd.proofs.Truths.{true_theorem, headline}
+use Rattle.tg_cmd.specs.Causes.{longest, IsLimit, OfRaw, refused, too_nested, no_text, a_text, no_token, too_large, lexed, OfInput, too_long, whole}
+use Rattle.tg_cmd.specs.Ends.{IsFaultLine, HasTokenLine, IsTheoryLine, IsPassedLine}
+use Rattle.tg_cmd.specs.Form.{Form, HasForm}
+use Rattle.tg_cmd.specs.Outcomes.{raw_item, raw_items, AreOutcomes}
+use Rattle.tg_cmd.specs.Output.{OfClasses, limited, Generated, Judged, IsOutput}
+use Rattle.tg_cmd.proofs.Forms.{one_form}
 
--- a text has one value
-pub one_text : (n : Part) (bytes : List ℕ) (v w : Value n) → IsTextOf n bytes v → IsTextOf n bytes w → v ≡ w
-one_text n bytes v w h k =
-    let same = tokens_once bytes h.tokens k.tokens h.lexed k.lexed in
-    one_value n v w (seen bytes h.tokens) h.text (subst (λ ts. IsText n w (seen bytes ts)) (sym same) k.text)
+-- ---- of a theory
 
-one_theory : (f g : Form) → raw_theory f ≡ raw_theory g → f ≡ g
-one_theory = one_form
+-- a theory that isn't accepted
+pub unaccepted : (Of : model.Theory → Answer → List ℕ → Type 0) (raw : RawTheory) (error : TheoryErr) (answer : Answer) (text : List ℕ)
+    → infer.IsRefusal (map raw_declaration raw.decls) error → IsTheoryLine error answer text → OfRaw Of raw answer text
+unaccepted Of raw (theory.TermSize place) answer text h line = refused place _ h line
+unaccepted Of raw (theory.Name place) answer text h line = refused place _ h line
+unaccepted Of raw (theory.Typing place) answer text h line = refused place _ h line
+unaccepted Of raw (theory.Ambiguous place) answer text h line = refused place _ h line
+unaccepted Of raw (theory.Shape place) answer text h line = refused place _ h line
+unaccepted Of raw (theory.Program place) answer text h line = refused place _ h line
+unaccepted Of raw theory.Memory answer text h line = absurd line
 
-only_form : (bytes : List ℕ) (f g : Form) → ReadsForm bytes f → ReadsForm bytes g → f ≡ g
-only_form bytes f g h k = one_form f g (one_text Theory bytes (raw_theory f) (raw_theory g) h.text k.text)
+-- a theory that passes a limit on classes
+pub passed_by : (Of : List Class → Answer → List ℕ → Type 0) (k : ℕ) (th : model.Theory) (error : LimitErr) (answer : Answer) (text : List ℕ)
+    → Stops (Derived th k) error → IsPassedLine error answer text → OfClasses Of k th answer text
+passed_by Of k th passed.Patterns answer text h line = limited work.patterns h line
+passed_by Of k th passed.Splits answer text h line = limited work.splits h line
+passed_by Of k th passed.Steps answer text h line = limited work.steps h line
+passed_by Of k th passed.Clauses answer text h line = limited work.clauses h line
+passed_by Of k th passed.Memory answer text h line = absurd line
 
-abbrev recorded : RawOutcomes → List RawItem
-recorded o = o.items
+-- ---- of tokens
 
-one_outcome : (s : Settings) (o p : Option ℕ) → raw_outcomes s o ≡ raw_outcomes s p → o ≡ p
-one_outcome s o p e = one_record o p (ap recorded e)
+module _ (bytes : List ℕ) (tokens : List Token) (reads : Reads bytes tokens) (short : length bytes ≤ longest) where
+  pub theory_output : (s : Settings) (raw : RawTheory) (answer : Answer) (text : List ℕ) → Parses Theory bytes tokens (Ok raw)
+      → Generated s raw answer text → IsOutput Generate s bytes answer text
+  theory_output s raw answer text h g = whole short (lexed tokens reads (a_text raw h.0 h.1 g))
 
-only_judged : (s : Settings) (bytes : List ℕ) (f g : Form) (o p : Option ℕ) → ReadsJudged s bytes f o → ReadsJudged s bytes g p → (f ≡ g) × (o ≡ p)
-only_judged s bytes f g o p h k =
-    let same = one_text parts.Judge bytes (raw_theory f, raw_outcomes s o) (raw_theory g, raw_outcomes s p) h.text k.text in
-    (one_form f g (ap (λ (x : RawTheory × RawOutcomes). x.0) same), one_outcome s o p (ap (λ (x : RawTheory × RawOutcomes). x.1) same))
+  pub judge_output : (s : Settings) (raw : RawTheory) (outcomes : RawOutcomes) (answer : Answer) (text : List ℕ)
+      → Parses parts.Judge bytes tokens (Ok (raw, outcomes)) → Judged s (raw, outcomes) answer text → IsOutput Judge s bytes answer text
+  judge_output s raw outcomes answer text h g = whole short (lexed tokens reads (a_text (raw, outcomes) h.0 h.1 g))
 
--- ---- of tokens that are a text
+  fault_of : (n : Part) (Of : Value n → Answer → List ℕ → Type 0) (error : FormErr) (answer : Answer) (text : List ℕ) → Parses n bytes tokens (Err error)
+      → IsFaultLine error answer text → OfInput n Of bytes answer text
+  fault_of n Of errors.Nested answer text h line = whole short (lexed tokens reads (too_nested h line))
+  fault_of n Of (errors.Form place) answer text h line = whole short (lexed tokens reads (no_text place h.0 h.1 line))
+  fault_of n Of errors.Memory answer text h line = absurd line
 
-module _ (bytes : List ℕ) (tokens : List Token) (lexed : Reads bytes tokens) (short : length bytes ≤ longest) where
-  text_of : (n : Part) (v : Value n) → Parses n bytes tokens (Ok v) → IsTextOf n bytes v
-  text_of n v h = record { tokens = tokens; lexed = lexed; shallow = h.0; text = h.1 }
+  pub theory_fault : (s : Settings) (error : FormErr) (answer : Answer) (text : List ℕ) → Parses Theory bytes tokens (Err error)
+      → IsFaultLine error answer text → IsOutput Generate s bytes answer text
+  theory_fault s error answer text h line = fault_of Theory (Generated s) error answer text h line
 
-  -- a text of another form
-  declined : (command : Command) (s : Settings) (is : IsOther command s bytes) (answer : Answer) (text : List ℕ) → IsDeclined (theory_of command is.value) answer text
-      → IsOutput command s bytes answer text
-  declined command s is answer text (inl (accepted, ends, printed)) =
-      subst (λ a. IsOutput command s bytes a text) (sym ends) (short, record { is = is; accepted = accepted }, printed)
-  declined command s is answer text (inr (place, k, h, ends, printed)) = subst (λ a. IsOutput command s bytes a text) (sym ends) (of k h printed)
-    where
-      fault : (k : Kind) → IsRefusedTheory (theory_of command is.value) place k → HasTheoryFault command bytes place k
-      fault k h = record { value = is.value; text = is.text; refused = h }
-
-      of : (k : Kind) → IsRefusedTheory (theory_of command is.value) place k → text ≡ line_for k place → IsOutput command s bytes (answer_for k place) text
-      of checks.term_size h e = (short, (place, fault checks.term_size h), e)
-      of checks.name h e = (short, fault checks.name h, e)
-      of checks.typing h e = (short, fault checks.typing h, e)
-      of checks.ambiguous h e = (short, fault checks.ambiguous h, e)
-      of checks.shape h e = (short, fault checks.shape h, e)
-      of checks.program h e = (short, fault checks.program h, e)
-
-  pub theory_output : (s : Settings) (theory : RawTheory) (answer : Answer) (text : List ℕ) → Parses Theory bytes tokens (Ok theory)
-      → IsReportOf s theory answer text → IsOutput Generate s bytes answer text
-  theory_output s theory answer text h (inl (f, has, ends, printed)) =
-      let reads : ReadsForm bytes f = record { form = has.0; text = subst (IsTextOf Theory bytes) has.1 (text_of Theory theory h) } in
-      subst (λ a. IsOutput Generate s bytes a text) (sym ends)
-      (short, (record { form = f; reads = reads; only = λ g k. only_form bytes g f k reads; accepted = form_accepted f has.0; printed = printed; theorem = true_theorem f (has_datum f) (λ e. e) }, refl))
-  theory_output s theory answer text h (inr (none, line)) =
-      let whole = text_of Theory theory h in
-      declined Generate s (record { value = theory; text = whole; other = λ f k. none f (k.form, one_text Theory bytes theory (raw_theory f) whole k.text) }) answer text line
-
-  reported : (v : Verdict) (s : Settings) (text : List ℕ) → IsJudgement s bytes (answer_on v) text → IsOutput Judge s bytes (answer_on v) text
-  reported Passed s text h = (short, h)
-  reported Failed s text h = (short, h)
-  reported Undecided s text h = (short, h)
-  reported Raised s text h = (short, h)
-  reported Missing s text h = (short, h)
-  reported NoDatum s text h = (short, h)
-
-  pub judge_output : (s : Settings) (theory : RawTheory) (outcomes : RawOutcomes) (answer : Answer) (text : List ℕ) → Parses parts.Judge bytes tokens (Ok (theory, outcomes))
-      → IsJudgementOf s theory outcomes answer text → IsOutput Judge s bytes answer text
-  judge_output s theory outcomes answer text h (inl (f, o, has, are, ends, printed)) =
-      let both : (theory, outcomes) ≡ (raw_theory f, raw_outcomes s o) = λ i. (has.1 i, are.1 i) in
-      let reads : ReadsJudged s bytes f o = record { form = has.0; recorded = are.0; text = subst (IsTextOf parts.Judge bytes) both (text_of parts.Judge (theory, outcomes) h) } in
-      subst (λ a. IsOutput Judge s bytes a text) (sym ends)
-      (reported (verdict f o) s text (record {
-        form = f;
-        outcome = o;
-        reads = reads;
-        only = λ g p k. only_judged s bytes g f p o k reads;
-        accepted = form_accepted f has.0;
-        printed = printed;
-        ends = refl;
-        headline = headline f o;
-      }))
-  judge_output s theory outcomes answer text h (inr (none, line)) =
-      let whole = text_of parts.Judge (theory, outcomes) h in
-      declined Judge s
-      (record {
-        value = (theory, outcomes);
-        text = whole;
-        other = λ f o k.
-            let same = one_text parts.Judge bytes (theory, outcomes) (raw_theory f, raw_outcomes s o) whole k.text in
-            none f o (k.form, ap (λ (x : RawTheory × RawOutcomes). x.0) same) (k.recorded, ap (λ (x : RawTheory × RawOutcomes). x.1) same);
-      }) answer text line
-
-  -- ---- of tokens that are none
-
-  pub fault_output : (command : Command) (s : Settings) (error : FormErr) (answer : Answer) (text : List ℕ) → Parses (part_of command) bytes tokens (Err error)
-      → IsFaultLine error answer text → IsOutput command s bytes answer text
-  fault_output command s errors.Nested answer text h (ends, printed) =
-      subst (λ a. IsOutput command s bytes a text) (sym ends) (short, (tokens, lexed, h), printed)
-  fault_output command s (errors.Form place) answer text h (ends, printed) =
-      subst (λ a. IsOutput command s bytes a text) (sym ends) (short, inr (tokens, lexed, h.0, h.1), printed)
-  fault_output command s errors.Memory answer text h line = absurd line
+  pub judge_fault : (s : Settings) (error : FormErr) (answer : Answer) (text : List ℕ) → Parses parts.Judge bytes tokens (Err error)
+      → IsFaultLine error answer text → IsOutput Judge s bytes answer text
+  judge_fault s error answer text h line = fault_of parts.Judge (Judged s) error answer text h line
 
 -- of bytes that have no tokens
+token_of : (n : Part) (Of : Value n → Answer → List ℕ → Type 0) (bytes : List ℕ) (answer : Answer) (text : List ℕ) → length bytes ≤ longest
+    → HasTokenLine bytes answer text → OfInput n Of bytes answer text
+token_of n Of bytes answer text short (inl (place, fault, line)) = whole short (no_token place fault line)
+token_of n Of bytes answer text short (inr (large, line)) = whole short (too_large large line)
+
 pub token_output : (bytes : List ℕ) (command : Command) (s : Settings) (answer : Answer) (text : List ℕ) → length bytes ≤ longest → HasTokenLine bytes answer text
     → IsOutput command s bytes answer text
-token_output bytes command s answer text short (inl (place, fault, ends, printed)) =
-    subst (λ a. IsOutput command s bytes a text) (sym ends) (short, inl fault, printed)
-token_output bytes command s answer text short (inr (large, ends, printed)) =
-    subst (λ a. IsOutput command s bytes a text) (sym ends) (short, large, printed)
+token_output bytes Generate s answer text short line = token_of Theory (Generated s) bytes answer text short line
+token_output bytes Judge s answer text short line = token_of parts.Judge (Judged s) bytes answer text short line
+
+-- of too many bytes
+pub long_output : (bytes : List ℕ) (command : Command) (s : Settings) (answer : Answer) (text : List ℕ) → longest < length bytes → IsLimit Input answer text
+    → IsOutput command s bytes answer text
+long_output bytes Generate s answer text long line = too_long long line
+long_output bytes Judge s answer text long line = too_long long line
 
 -- ---- in the calls
 
@@ -153,9 +107,9 @@ pub both_ok : {A E : Type 0} (P Q : A → Type 0) (r : Result A E) → IfOk r P 
 both_ok P Q (Ok a) p q = (p, q)
 both_ok P Q (Err e) p q = tt
 
-pub other_form : (s : Settings) (theory : RawTheory) (outcomes : RawOutcomes) (g : Form) → HasForm theory g → ((o : Option ℕ) → AreOutcomes s g outcomes o → ⊥)
-    → (f : Form) (o : Option ℕ) → HasForm theory f → AreOutcomes s f outcomes o → ⊥
-other_form s theory outcomes g has none f o h k =
+pub other_form : (s : Settings) (raw : RawTheory) (outcomes : RawOutcomes) (g : Form) → HasForm raw g → ((o : Option ℕ) → AreOutcomes s g outcomes o → ⊥)
+    → (f : Form) (o : Option ℕ) → HasForm raw f → AreOutcomes s f outcomes o → ⊥
+other_form s raw outcomes g has none f o h k =
     none o (subst (λ x. AreOutcomes s x outcomes o) (one_form f g (sym h.1 ∙ has.1)) k)
 
 first_item : (i j : RawItem) → i ∷ [] ≡ j ∷ [] → i ≡ j

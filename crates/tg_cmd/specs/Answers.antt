@@ -10,7 +10,7 @@ use Rattle.tg_cmd.specs.declared.answer.Ending.TheVariants as endings
 use Rattle.tg_cmd.specs.declared.answer.Refusal.{Refusal}
 use Rattle.tg_cmd.specs.declared.answer.Refusal.TheVariants.{Early, Form, Name, Typing, Ambiguous, Shape, Program}
 use Rattle.tg_cmd.specs.declared.answer.LimitName.{LimitName}
-use Rattle.tg_cmd.specs.declared.answer.LimitName.TheVariants.{Input, Number, Nesting, TermSize}
+use Rattle.tg_cmd.specs.declared.answer.LimitName.TheVariants.{Input, Number, Nesting, TermSize, Patterns, Splits, Steps, Clauses}
 
 abbrev pub status_of : Answer → ℕ
 status_of Done = 0
@@ -37,6 +37,10 @@ limit_line Input = codes "limit input 16777216\n"
 limit_line Number = codes "limit number 18446744073709551615\n"
 limit_line Nesting = codes "limit nesting " ++ (decimal load_limit ++ codes "\n")
 limit_line TermSize = codes "limit termsize 100000\n"
+limit_line Patterns = codes "limit patterns 4096\n"
+limit_line Splits = codes "limit splits 4096\n"
+limit_line Steps = codes "limit steps 2000000\n"
+limit_line Clauses = codes "limit clauses 4096\n"
 
 -- once the output was written
 abbrev pub answer_after : Ending → Answer

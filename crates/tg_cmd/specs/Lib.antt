@@ -10,3 +10,8 @@ pub mod Theorem
 pub mod Truths
 pub mod Verdicts
 pub mod Views
+pub mod Causes
+pub mod Data
+pub mod Ends
+pub mod Lines
+pub mod Promises

@@ -1,5 +1,5 @@
 -- What the bytes of an input are: a text of the grammar, or why they are none.
-use Rattle.std.specs.Prelude.{ℕ, ◌≡◌, ◌⊎◌, true, false, List, Option, map}
+use Rattle.std.specs.Prelude.{ℕ, ◌≡◌, ◌⊎◌, false, List, Option, map}
 use Rattle.tg_lex.specs.declared.token.Token.{Token}
 use Rattle.tg_lex.specs.Grammar.{Reads, HasWrongByte, HasOpenComment, HasLargeNumber}
 use Rattle.tg_lex.specs.Load.{load_limit, load_passes}
@@ -7,11 +7,10 @@ use Rattle.tg_grammar.specs.Seen.{seen, declarations}
 use Rattle.tg_grammar.specs.Parts.{Part, Value}
 use Rattle.tg_grammar.specs.Parts as parts
 use Rattle.tg_grammar.specs.Reading.{IsText}
-use Rattle.tg_syntax.specs.Parsing.{IsFormFault}
-use Rattle.tg_model.specs.Theory.{Theory}
 use Rattle.tg_accept.specs.Checks.{Kind}
 use Rattle.tg_accept.specs.Declared.{nothing}
 use Rattle.tg_accept.specs.Theories.{IsTheoryOf, IsRefused}
+use Rattle.tg_model.specs.Theory.{Theory}
 use Rattle.tg_grammar.specs.declared.declarations.RawTheory.{RawTheory}
 use Rattle.tg_infer.specs.View.{raw_declaration}
 use Rattle.tg_types.specs.declared.options.Settings.{Settings}
@@ -31,20 +30,9 @@ abbrev pub HasTokenFault : List ℕ → ℕ → Type 0
 HasTokenFault bytes place =
     (at : ℕ) × (before : List Token) × (HasWrongByte bytes at before ⊎ HasOpenComment bytes at before) × (place ≡ declarations (seen bytes before))
 
--- or tokens that are no text of the part
-abbrev pub HasTextFault : Part → List ℕ → ℕ → Type 0
-HasTextFault n bytes place =
-    (tokens : List Token) × Reads bytes tokens × (load_passes load_limit bytes tokens ≡ false) × IsFormFault n (seen bytes tokens) place
-
-abbrev pub HasFormFault : Part → List ℕ → ℕ → Type 0
-HasFormFault n bytes place = HasTokenFault bytes place ⊎ HasTextFault n bytes place
-
 -- the first fault is a number of 2^64 or more
 abbrev pub IsTooLarge : List ℕ → Type 0
 IsTooLarge bytes = (at : ℕ) × (before : List Token) × HasLargeNumber bytes at before
-
-abbrev pub IsTooNested : List ℕ → Type 0
-IsTooNested bytes = (tokens : List Token) × Reads bytes tokens × (load_passes load_limit bytes tokens ≡ true)
 
 -- ---- the theory
 
@@ -58,12 +46,7 @@ IsRefusedTheory t place k = IsRefused nothing 1 (map raw_declaration t.decls) pl
 
 -- ---- the form
 
--- the bytes are a theory of the form
-pub record ReadsForm (bytes : List ℕ) (f : Form) : Type 0 where
-  pub form : IsForm f
-  pub text : IsTextOf parts.Theory bytes (raw_theory f)
-
--- and the outcome of its test, in outcomes of these settings
+-- the bytes are a theory of the form and the outcome of its test, in outcomes of these settings
 pub record ReadsJudged (s : Settings) (bytes : List ℕ) (f : Form) (outcome : Option ℕ) : Type 0 where
   pub form : IsForm f
   pub recorded : IsOutcome f outcome

@@ -91,6 +91,19 @@ pub enum LimitName {
     /// A term of a declaration of more than 100,000 nodes.
     #[error("limit termsize 100000")]
     TermSize,
+    /// More than 4,096 patterns, or a pattern whose terms have together more than 100,000 nodes.
+    #[error("limit patterns 4096")]
+    Patterns,
+    /// More than 4,096 inner nodes over all split trees.
+    #[error("limit splits 4096")]
+    Splits,
+    /// More than 2,000,000 calls that normalise over all patterns and splits, a level of them above 1,000, or a normalised term
+    /// of more than 100,000 nodes.
+    #[error("limit steps 2000000")]
+    Steps,
+    /// A list of more than 4,096 clauses, or more of them over all leaves.
+    #[error("limit clauses 4096")]
+    Clauses,
 }
 
 /// How a run ends whose output was written.
@@ -159,5 +172,9 @@ pub(crate) fn put_limit(out: &mut Vec<u8>, name: LimitName) -> Result<(), AllocE
             ],
         ),
         LimitName::TermSize => put(out, &[Text(b"limit termsize 100000\n")]),
+        LimitName::Patterns => put(out, &[Text(b"limit patterns 4096\n")]),
+        LimitName::Splits => put(out, &[Text(b"limit splits 4096\n")]),
+        LimitName::Steps => put(out, &[Text(b"limit steps 2000000\n")]),
+        LimitName::Clauses => put(out, &[Text(b"limit clauses 4096\n")]),
     }
 }

@@ -7,7 +7,9 @@
 
 mod answer;
 mod command;
+mod data;
 mod form;
+mod form_report;
 mod options;
 mod outcomes;
 mod output;

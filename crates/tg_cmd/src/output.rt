@@ -1,28 +1,37 @@
-ghost use Rattle.std.specs.Prelude.{◌≡◌, ◌≤◌, All, length, IfOk, IfErr, IfSome, OnOk, OnErr};
+ghost use Rattle.std.specs.Prelude.{◌≡◌, ◌≤◌, List, All, length, IfOk, IfErr, IfSome, OnOk, OnErr};
 ghost use Rattle.tg_lex.specs.Answers.{IsFirstFault};
 ghost use Rattle.tg_lex.specs.Grammar.{Reads, IsTokenOf};
 ghost use Rattle.tg_grammar.specs.Seen.{seen, declarations};
 ghost use Rattle.tg_cmd.specs.declared.answer.Refusal.TheVariants as refusals;
-ghost use Rattle.tg_cmd.specs.Answers.{answer_after, refusal_line, limit_line};
-ghost use Rattle.tg_cmd.specs.Output.{longest, IsOutput, IsRead, IsStop, IsReportOf, IsJudgementOf, IsDeclined, IsFaultLine, HasTokenLine};
+ghost use Rattle.tg_cmd.specs.declared.answer.Refusal.TheVariants.{Early};
+ghost use Rattle.tg_cmd.specs.Answers.{answer_after};
+ghost use Rattle.tg_cmd.specs.Causes.{longest, IsRefusal, IsLimit};
+ghost use Rattle.tg_cmd.specs.Output.{IsOutput, IsRead, IsStop, IsReport, IsJudgement, OfClasses, Generated, Judged, Declined};
+ghost use Rattle.tg_cmd.specs.Ends.{IsFaultLine, HasTokenLine, IsTheoryLine, IsPassedLine};
 ghost use Rattle.tg_infer.specs.TextNames.{IsNamed};
+ghost use Rattle.tg_derive.specs.Answers.{Stops};
+ghost use Rattle.tg_derive.specs.Classes.{Derived, AreClasses};
+ghost use Rattle.tg_hyps.specs.Hypotheses.{Class};
 ghost use Rattle.tg_cmd.specs.Report.{report};
-ghost use Rattle.tg_cmd.specs.Verdicts.{verdict, answer_on};
+ghost use Rattle.tg_cmd.specs.Verdicts.{verdict};
 ghost use Rattle.tg_cmd.specs.Views.{form_view};
 
 use crate::answer::{Answer, Ending, LimitName, Refusal, put_limit, put_refusal};
 use crate::command::Command;
 use crate::form::{Form, form_of};
+use crate::form_report::form_report;
 use crate::options::Request;
 use crate::outcomes::outcome_of;
-use crate::report::report;
+use crate::report::report_on;
 use crate::verdict::{ending_on, verdict};
 use std::alloc::{AllocError, Global};
+use tg_derive::{LimitErr, classes};
 use tg_grammar::{RawOutcomes, RawTheory, place};
 use tg_infer::{TheoryErr, elaborate};
 use tg_io::{ReadErr, Source, read_all};
 use tg_lex::{LexErr, Token, lex};
 use tg_syntax::{FormErr, parse_judge, parse_theory};
+use tg_theory::Theory;
 use tg_types::Settings;
 
 /// How many bytes are read at the most.
@@ -98,8 +107,7 @@ fn without_tokens(alloc: Global, bytes: &[u8], error: &LexErr) -> Result<Output,
 /// The output where a byte or a comment is wrong behind these tokens.
 fn wrong_token(alloc: Global, bytes: &[u8], before: &[Token]) -> Result<Output, NoMemory>
     requires { All (IsTokenOf bytes.now) before.now }
-    ensures ending { IfOk result (λ o. answer_after o.ending ≡ Answer.Refused (refusals.Form (declarations (seen bytes.now before.now)))) }
-    ensures text { IfOk result (λ o. o.text.items ≡ refusal_line (refusals.Form (declarations (seen bytes.now before.now)))) }
+    ensures { IfOk result (λ o. IsRefusal (refusals.Form (declarations (seen bytes.now before.now))) (answer_after o.ending) o.text.items) }
 {
     let decl = place(bytes, before);
     refused(alloc, Refusal::Form { decl })
@@ -137,52 +145,102 @@ fn without_text(alloc: Global, error: FormErr) -> Result<Output, NoMemory>
     }
 }
 
-fn reported(alloc: Global, settings: &Settings, theory: &RawTheory) -> Result<Output, NoMemory>
-    requires { IsNamed theory.now }
-    ensures { IfOk result (λ o. IsReportOf settings.now theory.now (answer_after o.ending) o.text.items) }
+/// The report on a theory, or the line that says why there is none.
+fn reported(alloc: Global, settings: &Settings, read: &RawTheory) -> Result<Output, NoMemory>
+    requires { IsNamed read.now }
+    ensures { IfOk result (λ o. Generated settings.now read.now (answer_after o.ending) o.text.items) }
 {
-    match form_of(theory) {
-        Some(form) => Ok(Output {
-            text: report(alloc, settings, &form, None)?,
+    match elaborate(alloc, read) {
+        Ok(theory) => report(alloc, settings, &theory),
+        Err(error) => unaccepted(alloc, error),
+    }
+}
+
+fn report(alloc: Global, settings: &Settings, theory: &Theory) -> Result<Output, NoMemory>
+    ensures { IfOk result (λ o. OfClasses (IsReport settings.now theory.now) settings.now.depth theory.now (answer_after o.ending) o.text.items) }
+{
+    match classes(alloc, theory, settings.depth) {
+        Ok(classes) => Ok(Output {
+            text: report_on(alloc, theory, settings, classes.as_slice())?,
             ending: Ending::Done,
         }),
-        None => declined(alloc, theory),
+        Err(error) => without_classes(alloc, error),
+    }
+}
+
+/// The output where a limit on classes is passed.
+fn without_classes(alloc: Global, error: LimitErr) -> Result<Output, NoMemory>
+    ensures { IfOk result (λ o. IsPassedLine error (answer_after o.ending) o.text.items) }
+{
+    match error {
+        LimitErr::Patterns => limited(alloc, LimitName::Patterns),
+        LimitErr::Splits => limited(alloc, LimitName::Splits),
+        LimitErr::Steps => limited(alloc, LimitName::Steps),
+        LimitErr::Clauses => limited(alloc, LimitName::Clauses),
+        LimitErr::Memory => Err(NoMemory),
+    }
+}
+
+/// The output where the theory isn't accepted.
+fn unaccepted(alloc: Global, error: TheoryErr) -> Result<Output, NoMemory>
+    ensures { IfOk result (λ o. IsTheoryLine error (answer_after o.ending) o.text.items) }
+{
+    match error {
+        TheoryErr::TermSize { .. } => limited(alloc, LimitName::TermSize),
+        TheoryErr::Name { decl } => refused(alloc, Refusal::Name { decl }),
+        TheoryErr::Typing { decl } => refused(alloc, Refusal::Typing { decl }),
+        TheoryErr::Ambiguous { decl } => refused(alloc, Refusal::Ambiguous { decl }),
+        TheoryErr::Shape { decl } => refused(alloc, Refusal::Shape { decl }),
+        TheoryErr::Program { decl } => refused(alloc, Refusal::Program { decl }),
+        TheoryErr::Memory => Err(NoMemory),
     }
 }
 
 fn judged(
     alloc: Global,
     settings: &Settings,
-    theory: &RawTheory,
+    read: &RawTheory,
     outcomes: &RawOutcomes,
 ) -> Result<Output, NoMemory>
-    requires { IsNamed theory.now }
-    ensures { IfOk result (λ o. IsJudgementOf settings.now theory.now outcomes.now (answer_after o.ending) o.text.items) }
+    requires { IsNamed read.now }
+    ensures { IfOk result (λ o. Judged settings.now (read.now, outcomes.now) (answer_after o.ending) o.text.items) }
 {
-    match form_of(theory) {
+    match form_of(read) {
         Some(form) => match outcome_of(settings, &form, outcomes) {
             Some(answer) => judgement(alloc, settings, &form, answer),
-            None => declined(alloc, theory),
+            None => declined(alloc, settings, read),
         },
-        None => declined(alloc, theory),
+        None => declined(alloc, settings, read),
     }
 }
 
-/// The output where the input isn't of the form.
-fn declined(alloc: Global, theory: &RawTheory) -> Result<Output, NoMemory>
-    requires { IsNamed theory.now }
-    ensures { IfOk result (λ o. IsDeclined theory.now (answer_after o.ending) o.text.items) }
+/// The output where the input isn't of the form that is judged.
+fn declined(alloc: Global, settings: &Settings, read: &RawTheory) -> Result<Output, NoMemory>
+    requires { IsNamed read.now }
+    ensures { IfOk result (λ o. Declined settings.now read.now (answer_after o.ending) o.text.items) }
 {
-    match elaborate(alloc, theory) {
-        Ok(_) => refused(alloc, Refusal::Early),
-        Err(TheoryErr::TermSize { .. }) => limited(alloc, LimitName::TermSize),
-        Err(TheoryErr::Name { decl }) => refused(alloc, Refusal::Name { decl }),
-        Err(TheoryErr::Typing { decl }) => refused(alloc, Refusal::Typing { decl }),
-        Err(TheoryErr::Ambiguous { decl }) => refused(alloc, Refusal::Ambiguous { decl }),
-        Err(TheoryErr::Shape { decl }) => refused(alloc, Refusal::Shape { decl }),
-        Err(TheoryErr::Program { decl }) => refused(alloc, Refusal::Program { decl }),
-        Err(TheoryErr::Memory) => Err(NoMemory),
+    match elaborate(alloc, read) {
+        Ok(theory) => early(alloc, settings, &theory),
+        Err(error) => unaccepted(alloc, error),
     }
+}
+
+fn early(alloc: Global, settings: &Settings, theory: &Theory) -> Result<Output, NoMemory>
+    ensures { IfOk result (λ o. OfClasses (λ cs. IsRefusal Early) settings.now.depth theory.now (answer_after o.ending) o.text.items) }
+{
+    match check_limits(alloc, theory, settings.depth) {
+        Ok(()) => refused(alloc, Refusal::Early),
+        Err(error) => without_classes(alloc, error),
+    }
+}
+
+/// Tells the first limit on classes that is passed.
+fn check_limits(alloc: Global, theory: &Theory, depth: u8) -> Result<(), LimitErr>
+    ensures classes { OnOk result ((cs : List Class) × AreClasses theory.now depth cs) }
+    ensures limit { IfErr result (Stops (Derived theory.now depth)) }
+{
+    classes(alloc, theory, depth)?;
+    Ok(())
 }
 
 fn judgement(
@@ -191,19 +249,17 @@ fn judgement(
     form: &Form,
     answer: Option<u64>,
 ) -> Result<Output, NoMemory>
-    ensures text { IfOk result (λ o. o.text.items ≡ report settings.now (form_view form.now) (Some (verdict (form_view form.now) answer))) }
-    ensures ending { IfOk result (λ o. answer_after o.ending ≡ answer_on (verdict (form_view form.now) answer)) }
+    ensures { IfOk result (λ o. IsJudgement settings.now (form_view form.now) answer (answer_after o.ending) o.text.items) }
 {
     let verdict = verdict(form, answer);
     Ok(Output {
-        text: report(alloc, settings, form, Some(verdict))?,
+        text: form_report(alloc, settings, form, Some(verdict))?,
         ending: ending_on(verdict),
     })
 }
 
 fn refused(alloc: Global, refusal: Refusal) -> Result<Output, NoMemory>
-    ensures ending { IfOk result (λ o. answer_after o.ending ≡ Answer.Refused refusal) }
-    ensures text { IfOk result (λ o. o.text.items ≡ refusal_line refusal) }
+    ensures { IfOk result (λ o. IsRefusal refusal (answer_after o.ending) o.text.items) }
 {
     let mut text = Vec::new(alloc);
     put_refusal(&mut text, refusal)?;
@@ -214,8 +270,7 @@ fn refused(alloc: Global, refusal: Refusal) -> Result<Output, NoMemory>
 }
 
 fn limited(alloc: Global, name: LimitName) -> Result<Output, NoMemory>
-    ensures ending { IfOk result (λ o. answer_after o.ending ≡ Answer.Limit name) }
-    ensures text { IfOk result (λ o. o.text.items ≡ limit_line name) }
+    ensures { IfOk result (λ o. IsLimit name (answer_after o.ending) o.text.items) }
 {
     let mut text = Vec::new(alloc);
     put_limit(&mut text, name)?;

@@ -1,246 +1,200 @@
-ghost use Rattle.std.specs.Prelude.{◌≡◌, ◌++◌, IfOk, OnOk};
-ghost use Rattle.tg_cmd.specs.Report.{sign};
-ghost use Rattle.tg_cmd.specs.Views.{form_view};
-ghost use Rattle.tg_cmd.specs.Report.{report, head_text, class_text, datum_text, verdict_text, test_text, open_text, hypotheses_text, conclusion_text, counts_text, counts, tally};
-ghost use Rattle.tg_cmd.specs.Verdicts.{verdict_word};
+//! The report on a theory.
+ghost use Rattle.std.specs.Prelude.{◌≡◌, ◌+◌, ◌∷◌, [], IfOk, OnOk, length, map, decimal};
+ghost use Rattle.tg_cmd.specs.Lines.{head_lines, lines_of, classes_from, label_tokens, hypothesis_line, hypothesis_lines, theorem_lines, tested_count, open_count, counts_line, report_lines, report_on};
+ghost use Rattle.tg_derive.specs.Answers.{choice_of, hypothesis, label_of};
+ghost use Rattle.tg_hyps.specs.Hypotheses.{seen};
+ghost use Rattle.tg_render.specs.Render.{put, written, written_line, written_lines};
 
-use crate::form::{Form, Relation};
-use crate::verdict::{has_datum, is_tested};
+use crate::data::choices_by_data;
+use sqlite_items::Items;
 use std::alloc::{AllocError, Global};
-use tg_text::Part::{Number, Text};
-use tg_text::put;
-use tg_types::{Settings, Verdict};
+use tg_derive::{Choice, Hypothesis, Label, hypotheses};
+use tg_hyps::conclusion;
+use tg_render::{end_line, put_number, put_token};
+use tg_report::{put_class, put_formula, put_settings_line};
+use tg_term::{Class, Test, fill};
+use tg_theory::Theory;
+use tg_types::Settings;
 
-/// The report: the class, its datum if it has one, the verdict where outcomes were judged, the test
-/// theorem and the counts.
-#[tactic(auto, unfolding(crate::specs::Report::report))]
-pub(crate) fn report(
+/// The report on a theory of these classes: the classes with their data, the test theorem and the counts.
+pub(crate) fn report_on(
     alloc: Global,
-    settings: &Settings,
-    form: &Form,
-    verdict: Option<Verdict>,
+    th: &Theory,
+    s: &Settings,
+    classes: &[Class],
 ) -> Result<Vec<u8>, AllocError>
-    ensures { IfOk result (λ text. text.items ≡ report settings.now (form_view form.now) verdict) }
+    ensures { IfOk result (λ text. text.items ≡ report_on th.now s.now (map seen classes.now)) }
 {
-    let mut text = Vec::new(alloc);
-    put_head(&mut text, settings, form)?;
-    put_class(&mut text, form)?;
-    put_datum(&mut text, form)?;
-    put_verdict(&mut text, verdict)?;
-    put_hypotheses(&mut text, form, is_tested(form, verdict))?;
-    put_conclusion(&mut text, form)?;
-    put_counts(&mut text, form, verdict)?;
-    Ok(text)
+    let choices = choices_by_data(alloc, th, s, classes)?;
+    let mut out = Vec::new(alloc);
+    put_report(alloc, &mut out, th, s, classes, choices.as_slice())?;
+    Ok(out)
 }
 
-fn sign(relation: Relation) -> &'static [u8]
-    ensures { result.now ≡ sign relation }
+/// Writes the report where the classes are tested as the choices say.
+#[tactic(auto, using(crate::proofs::LineLaws::writing))]
+fn put_report(
+    alloc: Global,
+    out: &mut Vec<u8>,
+    th: &Theory,
+    s: &Settings,
+    classes: &[Class],
+    choices: &[Choice],
+) -> Result<(), AllocError>
+    requires { length classes.now ≡ length choices.now }
+    ensures { OnOk result (out.new.items ≡ written_lines out.old.items (report_lines th.now s.now (map seen classes.now) (map choice_of choices.now))) }
 {
-    match relation {
-        Relation::Less => b"<",
-        Relation::LessEqual => b"<=",
+    put_head(out, th, s)?;
+    put_classes(alloc, out, th, classes, choices)?;
+    put_theorem(alloc, out, th, s.depth, classes, choices)?;
+    put_counts(out, choices)
+}
+
+/// Writes the theory's name and the settings.
+fn put_head(out: &mut Vec<u8>, th: &Theory, s: &Settings) -> Result<(), AllocError>
+    ensures { OnOk result (out.new.items ≡ written_lines out.old.items (head_lines th.now s.now)) }
+{
+    put_token(out, b"testgen")?;
+    put_token(out, th.name().bytes())?;
+    end_line(out)?;
+    put_settings_line(out, s)
+}
+
+/// Writes the classes with their data.
+#[tactic(auto, using(crate::proofs::LineLaws::writing))]
+fn put_classes(
+    alloc: Global,
+    out: &mut Vec<u8>,
+    th: &Theory,
+    classes: &[Class],
+    choices: &[Choice],
+) -> Result<(), AllocError>
+    requires { length classes.now ≡ length choices.now }
+    ensures { OnOk result (out.new.items ≡ written_lines out.old.items (classes_from th.now 1 (map seen classes.now) (map choice_of choices.now))) }
+{
+    for (at, c) in classes.iter().enumerate() {
+        let number = u32::try_from(at + 1).map_err(|_| AllocError)?;
+        put_chosen(alloc, out, th, number, c, &choices[at])?;
+    }
+    Ok(())
+}
+
+/// Writes the class of this number with its datum, if it is tested.
+fn put_chosen(
+    alloc: Global,
+    out: &mut Vec<u8>,
+    th: &Theory,
+    number: u32,
+    c: &Class,
+    choice: &Choice,
+) -> Result<(), AllocError>
+    ensures { OnOk result (out.new.items ≡ written_lines out.old.items (lines_of th.now number (seen c.now) (choice_of choice.now))) }
+{
+    match choice {
+        Choice::Tested(values) => {
+            let datum = fill(alloc, &c.pattern, values.as_slice())?;
+            let test = Test {
+                class: number,
+                datum: Items::from_vec(datum),
+            };
+            put_class(out, th, number, c, Some(&test), None)
+        }
+        Choice::Assumed => put_class(out, th, number, c, None, None),
     }
 }
 
-fn put_head(out: &mut Vec<u8>, settings: &Settings, form: &Form) -> Result<(), AllocError>
-    ensures { OnOk result (out.new.items ≡ out.old.items ++ head_text settings.now (form_view form.now)) }
+/// Writes the test theorem.
+#[tactic(auto, using(crate::proofs::LineLaws::writing))]
+fn put_theorem(
+    alloc: Global,
+    out: &mut Vec<u8>,
+    th: &Theory,
+    depth: u8,
+    classes: &[Class],
+    choices: &[Choice],
+) -> Result<(), AllocError>
+    requires { length classes.now ≡ length choices.now }
+    ensures { OnOk result (out.new.items ≡ written_lines out.old.items (theorem_lines th.now depth (map seen classes.now) (map choice_of choices.now))) }
 {
-    put(
-        out,
-        &[
-            Text(b"testgen "),
-            Text(form.name),
-            Text(b"\nsettings depth "),
-            Number(u64::from(settings.depth)),
-            Text(b" bound "),
-            Number(u64::from(settings.bound)),
-            Text(b" seed "),
-            Number(settings.seed),
-            Text(b" tries "),
-            Number(u64::from(settings.tries)),
-            Text(b" width "),
-            Number(u64::from(settings.width)),
-            Text(b"\n"),
-        ],
-    )
+    put_token(out, b"theorem")?;
+    end_line(out)?;
+    let hs = hypotheses(alloc, th, depth, classes, choices)?;
+    put_hypotheses(out, th, hs.as_slice())?;
+    put_token(out, b"conclusion")?;
+    put_formula(out, th, &conclusion(alloc, th)?)?;
+    end_line(out)
 }
 
-fn put_class(out: &mut Vec<u8>, form: &Form) -> Result<(), AllocError>
-    ensures { OnOk result (out.new.items ≡ out.old.items ++ class_text (form_view form.now)) }
+#[tactic(auto, using(crate::proofs::LineLaws::writing))]
+fn put_hypotheses(out: &mut Vec<u8>, th: &Theory, hs: &[Hypothesis]) -> Result<(), AllocError>
+    ensures { OnOk result (out.new.items ≡ written_lines out.old.items (hypothesis_lines th.now (map hypothesis hs.now))) }
 {
-    let constraint = sign(form.constraint);
-    let check = sign(form.check);
-    put(
-        out,
-        &[
-            Text(b"class 1\npattern ?1\nconstraint (?1 "),
-            Text(constraint),
-            Text(b" "),
-            Number(form.limit),
-            Text(b")\ncheck (?1 "),
-            Text(check),
-            Text(b" ("),
-            Text(form.program),
-            Text(b" ?1))\n"),
-        ],
-    )
+    for h in hs {
+        put_hypothesis(out, th, h)?;
+    }
+    Ok(())
 }
 
-fn put_datum(out: &mut Vec<u8>, form: &Form) -> Result<(), AllocError>
-    ensures { OnOk result (out.new.items ≡ out.old.items ++ datum_text (form_view form.now)) }
+#[tactic(auto, using(crate::proofs::LineLaws::writing))]
+fn put_hypothesis(out: &mut Vec<u8>, th: &Theory, h: &Hypothesis) -> Result<(), AllocError>
+    ensures { OnOk result (out.new.items ≡ written_line out.old.items (hypothesis_line th.now (hypothesis h.now))) }
 {
-    if has_datum(form) {
-        out.extend_from_slice(b"datum 0\n")
-    } else {
-        out.extend_from_slice(b"open\n")
+    put_label(out, h.label)?;
+    put_formula(out, th, &h.formula)?;
+    end_line(out)
+}
+
+fn put_label(out: &mut Vec<u8>, label: Label) -> Result<(), AllocError>
+    ensures { OnOk result (out.new.items ≡ written out.old.items (label_tokens (label_of label))) }
+{
+    match label {
+        Label::Test(n) => put_numbered(out, b"test", n),
+        Label::Uniformity(n) => put_numbered(out, b"uniformity", n),
+        Label::OpenClass(n) => put_numbered(out, b"open", n),
+        Label::Regularity => put_token(out, b"regularity"),
     }
 }
 
-fn put_verdict(out: &mut Vec<u8>, verdict: Option<Verdict>) -> Result<(), AllocError>
-    ensures { OnOk result (out.new.items ≡ out.old.items ++ verdict_text verdict) }
+fn put_numbered(out: &mut Vec<u8>, word: &[u8], number: usize) -> Result<(), AllocError>
+    ensures { OnOk result (out.new.items ≡ put (put out.old.items word.now) (decimal number)) }
 {
-    match verdict {
-        Some(verdict) => put(
-            out,
-            &[Text(b"verdict "), Text(verdict_word(verdict)), Text(b"\n")],
-        ),
-        None => Ok(()),
+    put_token(out, word)?;
+    put_number(out, number as u64)
+}
+
+/// Writes how many classes there are, how many are tested, and how many aren't.
+fn put_counts(out: &mut Vec<u8>, choices: &[Choice]) -> Result<(), AllocError>
+    ensures { OnOk result (out.new.items ≡ written_line out.old.items (counts_line (map choice_of choices.now))) }
+{
+    let tested = tested_count(choices);
+    put_token(out, b"classes")?;
+    put_number(out, choices.len() as u64)?;
+    put_token(out, b"tests")?;
+    put_number(out, tested as u64)?;
+    put_token(out, b"open")?;
+    put_number(out, (choices.len() - tested) as u64)?;
+    end_line(out)
+}
+
+/// How many classes are tested.
+fn tested_count(choices: &[Choice]) -> usize
+    ensures tested { result ≡ tested_count (map choice_of choices.now) }
+    ensures open { result + open_count (map choice_of choices.now) ≡ length choices.now }
+{
+    let mut count = 0;
+    for choice in choices {
+        count += tested_once(choice);
     }
+    count
 }
 
-fn verdict_word(verdict: Verdict) -> &'static [u8]
-    ensures { result.now ≡ verdict_word verdict }
+/// One for a class that is tested, else none.
+fn tested_once(choice: &Choice) -> usize
+    ensures tested { result ≡ tested_count (choice_of choice.now ∷ []) }
+    ensures open { result + open_count (choice_of choice.now ∷ []) ≡ 1 }
 {
-    match verdict {
-        Verdict::Passed => b"passed",
-        Verdict::Failed => b"failed",
-        Verdict::Undecided => b"undecided",
-        Verdict::Raised => b"raised",
-        Verdict::Missing => b"missing",
-        Verdict::NoDatum => b"open",
-    }
-}
-
-/// Of a tested class the test and the uniformity; another one stays open.
-fn put_hypotheses(out: &mut Vec<u8>, form: &Form, tested: bool) -> Result<(), AllocError>
-    ensures { OnOk result (out.new.items ≡ out.old.items ++ hypotheses_text (form_view form.now) tested) }
-{
-    if tested {
-        put_test(out, form)
-    } else {
-        put_open_class(out, form)
-    }
-}
-
-fn put_test(out: &mut Vec<u8>, form: &Form) -> Result<(), AllocError>
-    ensures { OnOk result (out.new.items ≡ out.old.items ++ test_text (form_view form.now)) }
-{
-    let constraint = sign(form.constraint);
-    let check = sign(form.check);
-    put(
-        out,
-        &[
-            Text(b"theorem\ntest 1 ((tested 0) & [(0 "),
-            Text(check),
-            Text(b" ("),
-            Text(form.program),
-            Text(b" 0))])\nuniformity 1 (THYP ((EX nat. ((tested !1) & ([(!1 "),
-            Text(constraint),
-            Text(b" "),
-            Number(form.limit),
-            Text(b")] & [(!1 "),
-            Text(check),
-            Text(b" ("),
-            Text(form.program),
-            Text(b" !1))]))) --> (ALL nat. ((tested !1) --> ([(!1 "),
-            Text(constraint),
-            Text(b" "),
-            Number(form.limit),
-            Text(b")] --> [(!1 "),
-            Text(check),
-            Text(b" ("),
-            Text(form.program),
-            Text(b" !1))])))))\n"),
-        ],
-    )
-}
-
-fn put_open_class(out: &mut Vec<u8>, form: &Form) -> Result<(), AllocError>
-    ensures { OnOk result (out.new.items ≡ out.old.items ++ open_text (form_view form.now)) }
-{
-    let constraint = sign(form.constraint);
-    let check = sign(form.check);
-    put(
-        out,
-        &[
-            Text(b"theorem\nopen 1 (ALL nat. ((tested !1) --> ([(!1 "),
-            Text(constraint),
-            Text(b" "),
-            Number(form.limit),
-            Text(b")] --> [(!1 "),
-            Text(check),
-            Text(b" ("),
-            Text(form.program),
-            Text(b" !1))])))\n"),
-        ],
-    )
-}
-
-fn put_conclusion(out: &mut Vec<u8>, form: &Form) -> Result<(), AllocError>
-    ensures { OnOk result (out.new.items ≡ out.old.items ++ conclusion_text (form_view form.now)) }
-{
-    let constraint = sign(form.constraint);
-    let check = sign(form.check);
-    put(
-        out,
-        &[
-            Text(b"conclusion (ALL nat. ((tested !1) --> [((!1 "),
-            Text(constraint),
-            Text(b" "),
-            Number(form.limit),
-            Text(b") --> (!1 "),
-            Text(check),
-            Text(b" ("),
-            Text(form.program),
-            Text(b" !1)))]))\n"),
-        ],
-    )
-}
-
-fn put_counts(out: &mut Vec<u8>, form: &Form, verdict: Option<Verdict>) -> Result<(), AllocError>
-    ensures { OnOk result (out.new.items ≡ out.old.items ++ counts_text (form_view form.now) verdict) }
-{
-    put(out, &[Text(counts(form, verdict)), Text(b"\n")])
-}
-
-fn counts(form: &Form, verdict: Option<Verdict>) -> &'static [u8]
-    ensures { result.now ≡ counts (form_view form.now) verdict }
-{
-    match verdict {
-        Some(verdict) => tally(verdict),
-        None => class_counts(form),
-    }
-}
-
-fn class_counts(form: &Form) -> &'static [u8]
-    ensures { result.now ≡ counts (form_view form.now) None }
-{
-    if has_datum(form) {
-        b"classes 1 tests 1 open 0"
-    } else {
-        b"classes 1 tests 0 open 1"
-    }
-}
-
-fn tally(verdict: Verdict) -> &'static [u8]
-    ensures { result.now ≡ tally verdict }
-{
-    match verdict {
-        Verdict::Passed => b"passed 1 failed 0 undecided 0 raised 0 missing 0 open 0",
-        Verdict::Failed => b"passed 0 failed 1 undecided 0 raised 0 missing 0 open 0",
-        Verdict::Undecided => b"passed 0 failed 0 undecided 1 raised 0 missing 0 open 0",
-        Verdict::Raised => b"passed 0 failed 0 undecided 0 raised 1 missing 0 open 0",
-        Verdict::Missing => b"passed 0 failed 0 undecided 0 raised 0 missing 1 open 0",
-        Verdict::NoDatum => b"passed 0 failed 0 undecided 0 raised 0 missing 0 open 1",
+    match choice {
+        Choice::Tested(_) => 1,
+        Choice::Assumed => 0,
     }
 }

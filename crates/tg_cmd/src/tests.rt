@@ -129,13 +129,96 @@ classes 1 tests 0 open 1
     Ok(())
 }
 
+const SORT: &[u8] = b"theory Sort version 1 begin
+datatype 'a list = Nil | Cons 'a ('a list);
+primrec ins :: nat => (nat list) => (nat list) where
+  ins x Nil = Cons x Nil;
+  ins x (Cons y ys) = if x <= y then Cons x (Cons y ys) else Cons y (ins x ys);
+primrec isort :: nat list => nat list where
+  isort Nil = Nil;
+  isort (Cons x xs) = ins x (isort xs);
+program put :: nat list => nat list;
+spec xs . put xs = isort xs;
+end";
+
+/// The lines of the text that are no `test` and no `uniformity` are known by hand, as are those of the first class.
 #[test]
-fn a_theory_of_another_form_is_refused_early(rt: HostRuntime) -> Result<(), Fail> {
-    let input = b"theory Inc version 1 begin program put :: nat => nat; spec x . put x = x; end";
+fn lists_are_sorted_in_four_classes(rt: HostRuntime) -> Result<(), Fail> {
+    let (answer, sink) = run_whole(rt.alloc(), b"generate", SORT)?;
+    assert_eq!(rt; answer, Answer::Done);
+    assert!(rt;
+        sink.bytes().starts_with(
+            b"testgen Sort
+settings depth 3 bound 8 seed 1 tries 1000 width 16
+class 1
+pattern Nil
+check ((put Nil) = Nil)
+datum Nil
+class 2
+pattern (Cons ?1 Nil)
+check ((put (Cons ?1 Nil)) = (Cons ?1 Nil))
+datum (Cons 0 Nil)
+class 3
+pattern (Cons ?1 (Cons ?2 Nil))
+constraint (?1 <= ?2)
+check ((put (Cons ?1 (Cons ?2 Nil))) = (Cons ?1 (Cons ?2 Nil)))
+datum (Cons 0 (Cons 0 Nil))
+class 4
+pattern (Cons ?1 (Cons ?2 Nil))
+constraint (~ (?1 <= ?2))
+check ((put (Cons ?1 (Cons ?2 Nil))) = (Cons ?2 (Cons ?1 Nil)))
+datum (Cons 1 (Cons 0 Nil))
+theorem
+test 1 ((tested Nil) & [((put Nil) = Nil)])
+uniformity 1 (THYP (((tested Nil) & [((put Nil) = Nil)]) --> ((tested Nil) --> [((put Nil) = Nil)])))
+test 2 "
+        )
+    );
+    assert!(rt;
+        sink.bytes().ends_with(
+            b"
+regularity (THYP (ALL (nat list). ((tested !1) --> ((deep 3 !1) --> [((put !1) = (isort !1))]))))
+conclusion (ALL (nat list). ((tested !1) --> [((put !1) = (isort !1))]))
+classes 4 tests 4 open 0
+"
+        )
+    );
+    Ok(())
+}
+
+#[test]
+fn a_true_specification_has_no_class(rt: HostRuntime) -> Result<(), Fail> {
+    let input = b"theory T version 1 begin program put :: nat => nat; spec x . True; end";
     let (answer, sink) = run_whole(rt.alloc(), b"generate", input)?;
-    assert_eq!(rt; answer, Answer::Refused(Refusal::Early));
-    assert_eq!(rt; answer.status(), 6);
-    assert_eq!(rt; sink.bytes(), b"refused early\n".as_slice());
+    assert_eq!(rt; answer, Answer::Done);
+    assert_eq!(rt;
+        sink.bytes(),
+        b"testgen T
+settings depth 3 bound 8 seed 1 tries 1000 width 16
+theorem
+conclusion (ALL nat. ((tested !1) --> [True]))
+classes 0 tests 0 open 0
+"
+            .as_slice()
+    );
+    Ok(())
+}
+
+#[test]
+fn limits_on_classes_are_told(rt: HostRuntime) -> Result<(), Fail> {
+    let input =
+        b"theory T version 1 begin datatype tree = Leaf | Node tree nat tree; program put :: tree => tree; spec t . put t = t; end";
+    let words = vec![in rt.alloc();
+        Name::new(rt.alloc(), b"generate")?,
+        Name::new(rt.alloc(), b"--depth")?,
+        Name::new(rt.alloc(), b"6")?,
+    ]?;
+    let mut source = MemSource::new(Vec::from_slice(rt.alloc(), input)?, 7, Vec::new(rt.alloc()));
+    let mut sink = MemSink::new(rt.alloc(), 4096, 10, Vec::new(rt.alloc()))?;
+    let answer = run(rt.alloc(), words.as_slice(), &mut source, &mut sink);
+    assert_eq!(rt; answer, Answer::Limit(LimitName::Patterns));
+    assert_eq!(rt; answer.status(), 7);
+    assert_eq!(rt; sink.bytes(), b"limit patterns 4096\n".as_slice());
     Ok(())
 }
 
@@ -250,6 +333,15 @@ fn an_answer_of_a_class_without_a_datum_is_refused(rt: HostRuntime) -> Result<()
     assert_eq!(rt; sink.bytes(), b"refused early\n".as_slice());
     let (answer, _) = judged(rt.alloc(), theory, NOTHING_RECORDED)?;
     assert_eq!(rt; answer, Answer::Done);
+    Ok(())
+}
+
+#[test]
+fn judging_another_theory_is_refused_early(rt: HostRuntime) -> Result<(), Fail> {
+    let (answer, sink) = judged(rt.alloc(), SORT, NOTHING_RECORDED)?;
+    assert_eq!(rt; answer, Answer::Refused(Refusal::Early));
+    assert_eq!(rt; answer.status(), 6);
+    assert_eq!(rt; sink.bytes(), b"refused early\n".as_slice());
     Ok(())
 }
 

@@ -4,7 +4,9 @@ ghost use Rattle.tg_io.specs.Whole.{written_of};
 ghost use Rattle.tg_cmd.specs.declared.command.Command.{Command};
 ghost use Rattle.tg_types.specs.declared.options.Settings.{Settings};
 ghost use Rattle.tg_cmd.specs.Options.{ReadsWords, IsCommand};
-ghost use Rattle.tg_cmd.specs.Output.{HasBytes, Completes, IsSilent, IsWriteFault};
+ghost use Rattle.tg_cmd.specs.declared.command.Command.TheVariants.{Generate, Judge};
+ghost use Rattle.tg_cmd.specs.Output.{HasBytes, Completes, IsResult, IsSilent, IsWriteFault, IsWritten};
+ghost use Rattle.tg_cmd.specs.Promises.{PrintsTheorem, PrintsHeadline};
 
 use crate::answer::{Answer, Ending};
 use crate::options::request_of;
@@ -23,17 +25,20 @@ use tg_types::Name;
 /// sink's did. `Limit(Input)` comes exactly where the input is longer than 16,777,216 bytes. Else the first
 /// fault of its tokens is answered, as `Limit(Number)` where it is a number of 2^64 or more, and as
 /// `Refused(Form)` where it is another; else `Limit(Nesting)` where the tokens nest too deep; else
-/// `Refused(Form)` where they are no text of the grammar, and `Refused(Early)` where they are one of another
-/// form. At each of these one line is written. Else the report is written, and the answer is `TestsFailed`
-/// exactly where `judge` gives the verdict `failed`, else `Done`. The whole input is read before anything is
-/// written.
+/// `Refused(Form)` where they are no text of the grammar; else the first fault of the theory's declarations;
+/// else the first limit that is passed in making the classes. At each of these one line is written. Else the
+/// report is written, and the answer is `TestsFailed` exactly where `judge` gives the verdict `failed`, else
+/// `Done`. The whole input is read before anything is written.
 ///
-/// An input of the form is answered with its report, but for faults and want of memory.
+/// So `generate` has a report on each theory that is accepted and passes no limit. `judge` has one where the theory is of
+/// one form and its outcomes are of the form's one test (`specs/Form.antt`, `specs/Outcomes.antt`), and answers
+/// `Refused(Early)` for others.
 ///
-/// The theorem that a report prints is derivable and true on every table. Where `judge` has answered
-/// `Done` or `TestsFailed`, on every finite table that has the outcome that is judged passed the printed
-/// hypotheses give the specification, which implies each of them on every table; and an outcome that is
-/// judged failed refutes it. (`IsHeadline` in `specs/Truths.antt`. HOL-TestGen's test theorem, after
+/// The theorem that `generate` prints is true on every table, and each uniformity, open class and regularity
+/// that it prints is true on every table where the specification is. Where `judge` has answered `Done` or
+/// `TestsFailed`, the theorem that it prints is derivable and true on every table; on every finite table that
+/// has the outcome that is judged passed the printed hypotheses give the specification, which implies each of
+/// them on every table; and an outcome that is judged failed refutes it. (HOL-TestGen's test theorem, after
 /// Brucker and Wolff.)
 pub fn run<S: Source, K: Sink>(
     alloc: Global,
@@ -47,6 +52,8 @@ pub fn run<S: Source, K: Sink>(
     ensures write_fault { IsWriteFault result → Rose (K.faults sink.old) (K.faults sink.new) }
     ensures silent { IsSilent result → sink.new ≡ sink.old }
     ensures complete { (c : Command) (s : Settings) → ReadsWords words.now c s → IfSome (S.left source.old) (λ input. Completes c s input result) }
+    ensures theorem { (s : Settings) → ReadsWords words.now Generate s → result ≡ Answer.Done → IsWritten (PrintsTheorem s) (S.left source.old) (K.written sink.old) (K.written sink.new) }
+    ensures headline { (s : Settings) → ReadsWords words.now Judge s → IsResult result → IsWritten (PrintsHeadline s) (S.left source.old) (K.written sink.old) (K.written sink.new) }
     ensures bytes { (c : Command) (s : Settings) → ReadsWords words.now c s → HasBytes c s result (S.left source.old) (S.left source.new) (K.written sink.old) (K.written sink.new) }
 {
     let request = match request_of(words) {

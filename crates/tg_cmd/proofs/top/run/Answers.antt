@@ -7,10 +7,12 @@ use Rattle.tg_cmd.specs.declared.answer.Answer.TheVariants.{Done, TestsFailed, R
 use Rattle.tg_cmd.specs.declared.answer.Ending.{Ending}
 use Rattle.tg_cmd.specs.declared.answer.Ending.TheVariants as endings
 use Rattle.tg_cmd.specs.declared.command.Command.{Command}
+use Rattle.tg_cmd.specs.declared.command.Command.TheVariants.{Generate, Judge}
 use Rattle.tg_cmd.specs.Answers.{answer_after}
 use Rattle.tg_cmd.specs.Options.{ReadsWords, AskFor}
 use Rattle.tg_cmd.specs.Output.{IsOutput, IsRead, HasBytes, Completes}
 use Rattle.tg_cmd.proofs.Completeness.{all_complete}
+use Rattle.tg_cmd.proofs.Promises.{theorem_written, headline_written}
 use Rattle.tg_cmd.proofs.top.run.Goals as goal
 
 -- the words ask for one thing, so what holds of it holds of all that they read as
@@ -138,3 +140,39 @@ returns-clause-bytes g c = λ d t words.
     ) in
     moved c.args.words.now r.command d r.settings t c.write_fault.result before after old new c.in-Some.ensures words
     (subst (λ (a : Answer). HasBytes r.command r.settings a before after old new) (sym c.write_fault.ensures) fact)
+
+-- the promises
+
+output_at : (words : List (List ℕ)) (c d : Command) (s t : Settings) (left : Option (List ℕ)) (answer : Answer) (text : List ℕ) → AskFor words c s → ReadsWords words d t
+    → IfSome left (λ input. IsOutput c s input answer text) → IfSome left (λ input. IsOutput d t input answer text)
+output_at words c d s t left answer text asked reads h =
+    let same = asked.only d t reads in
+    subst (λ (x : Command). IfSome left (λ input. IsOutput x t input answer text)) same.0
+    (subst (λ (y : Settings). IfSome left (λ input. IsOutput c y input answer text)) same.1 h)
+
+pub returns-in-Done-clause-theorem : goal.returns-in-Done-clause-theorem
+returns-in-Done-clause-theorem g c = λ t words done.
+    let before = g.S.Source.left c.args.source.now in
+    let r = c.in-Some.request in
+    let made = output_at c.args.words.now r.command Generate r.settings t before Done c.in-Ok.output.text.items c.in-Some.ensures words
+    (subst (λ (e : Ending). IfSome before (λ input. IsOutput r.command r.settings input (answer_after e) c.in-Ok.output.text.items)) c.in-Done.is c.in-Ok.ensures.made) in
+    theorem_written t c.as_slice.result.now before (g.K.Sink.written c.args.sink.now) (g.K.Sink.written c.write_all.new.sink)
+    (subst (λ (z : List ℕ). IfSome before (λ input. IsOutput Generate t input Done z)) (sym c.as_slice.ensures.value) made) c.in-Ok-write_all.ensures.whole
+
+pub returns-in-Done-clause-headline : goal.returns-in-Done-clause-headline
+returns-in-Done-clause-headline g c = λ t words done.
+    let before = g.S.Source.left c.args.source.now in
+    let r = c.in-Some.request in
+    let made = output_at c.args.words.now r.command Judge r.settings t before Done c.in-Ok.output.text.items c.in-Some.ensures words
+    (subst (λ (e : Ending). IfSome before (λ input. IsOutput r.command r.settings input (answer_after e) c.in-Ok.output.text.items)) c.in-Done.is c.in-Ok.ensures.made) in
+    headline_written t Done c.as_slice.result.now before (g.K.Sink.written c.args.sink.now) (g.K.Sink.written c.write_all.new.sink) tt
+    (subst (λ (z : List ℕ). IfSome before (λ input. IsOutput Judge t input Done z)) (sym c.as_slice.ensures.value) made) c.in-Ok-write_all.ensures.whole
+
+pub returns-in-TestsFailed-clause-headline : goal.returns-in-TestsFailed-clause-headline
+returns-in-TestsFailed-clause-headline g c = λ t words done.
+    let before = g.S.Source.left c.args.source.now in
+    let r = c.in-Some.request in
+    let made = output_at c.args.words.now r.command Judge r.settings t before TestsFailed c.in-Ok.output.text.items c.in-Some.ensures words
+    (subst (λ (e : Ending). IfSome before (λ input. IsOutput r.command r.settings input (answer_after e) c.in-Ok.output.text.items)) c.in-TestsFailed.is c.in-Ok.ensures.made) in
+    headline_written t TestsFailed c.as_slice.result.now before (g.K.Sink.written c.args.sink.now) (g.K.Sink.written c.write_all.new.sink) tt
+    (subst (λ (z : List ℕ). IfSome before (λ input. IsOutput Judge t input TestsFailed z)) (sym c.as_slice.ensures.value) made) c.in-Ok-write_all.ensures.whole

@@ -3,7 +3,7 @@ use Rattle.std.specs.Prelude.{codes}
 use Rattle.tg_cmd.specs.Report.{sign}
 use Rattle.tg_cmd.specs.Views.{form_view}
 use Rattle.tg_cmd.proofs.Texts.{open_parts, open_opened}
-use Rattle.tg_cmd.proofs.report.put_open_class.Goals as goal
+use Rattle.tg_cmd.proofs.form_report.put_open_class.Goals as goal
 
 pub returns : goal.returns
 returns c =

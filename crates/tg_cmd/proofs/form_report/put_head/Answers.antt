@@ -1,7 +1,7 @@
 use Rattle.std.proofs.Common.{◌≡◌, ◌++◌, OnOk, List, ℕ, subst}
 use Rattle.tg_cmd.specs.Views.{form_view}
 use Rattle.tg_cmd.proofs.Texts.{head_opened}
-use Rattle.tg_cmd.proofs.report.put_head.Goals as goal
+use Rattle.tg_cmd.proofs.form_report.put_head.Goals as goal
 
 pub returns : goal.returns
 returns c =

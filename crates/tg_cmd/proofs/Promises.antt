@@ -1,0 +1,104 @@
+-- The promises on what is printed, of the output of a run.
+use Rattle.std.proofs.Common.{ℕ, ◌≡◌, List, map, Option, Some, None, IfSome, subst}
+use Rattle.std.specs.Io.KnownBytes.{Appends}
+use Rattle.tg_accept.proofs.AcceptedTheories.{theory_is_accepted}
+use Rattle.tg_grammar.specs.declared.declarations.RawTheory.{RawTheory}
+use Rattle.tg_grammar.specs.declared.outcomes.RawOutcomes.{RawOutcomes}
+use Rattle.tg_grammar.specs.Parts as parts
+use Rattle.tg_infer.specs.View.{raw_declaration}
+use Rattle.tg_types.specs.declared.options.Settings.{Settings}
+use Rattle.tg_cmd.specs.declared.answer.Answer.{Answer}
+use Rattle.tg_cmd.specs.declared.answer.Answer.TheVariants.{Done}
+use Rattle.tg_cmd.specs.declared.command.Command.TheVariants.{Generate, Judge}
+use Rattle.tg_accept.specs.Checks as checks
+use Rattle.tg_accept.specs.Checks.{Kind}
+use Rattle.tg_cmd.specs.Answers.{answer_for}
+use Rattle.tg_cmd.specs.Causes.{refused, accepted, too_nested, no_text, a_text, no_token, too_large, lexed, too_long, whole}
+use Rattle.tg_cmd.specs.Form.{raw_theory}
+use Rattle.tg_cmd.specs.Outcomes.{raw_outcomes}
+use Rattle.tg_cmd.specs.Output.{limited, classes, Generated, Declined, Judged, of_form, of_other, IsOutput, IsResult, IsWritten}
+use Rattle.tg_cmd.specs.Promises.{PrintsTheorem, PrintsHeadline}
+use Rattle.tg_cmd.specs.Reading.{IsTextOf}
+use Rattle.tg_cmd.proofs.FormAccepted.{form_accepted}
+use Rattle.tg_cmd.proofs.TrueTheorems.{true_theorem}
+use Rattle.tg_cmd.proofs.Truths.{headline}
+
+-- no line in place of a result ends a run that is done
+no_result : (k : Kind) (place : ℕ) → IsResult (answer_for k place) → ⊥
+no_result checks.term_size place h = h
+no_result checks.name place h = h
+no_result checks.typing place h = h
+no_result checks.ambiguous place h = h
+no_result checks.shape place h = h
+no_result checks.program place h = h
+
+abbrev is_result : Answer → Answer → Type 0
+is_result a b = IsResult a → IsResult b
+
+moved : (a b : Answer) → a ≡ b → IsResult a → IsResult b
+moved a b e h = subst IsResult e h
+
+module _ (s : Settings) (input text : List ℕ) where
+  of_raw : (raw : RawTheory) → IsTextOf parts.Theory input raw → Generated s raw Done text → PrintsTheorem s input text
+  of_raw raw reads (refused place k h line) = absurd (no_result k place (moved _ _ line.answers tt))
+  of_raw raw reads (accepted th h (limited l i line)) = absurd (moved _ _ line.answers tt)
+  of_raw raw reads (accepted th h (classes cs i line)) = record {
+    read = raw;
+    theory = th;
+    classes = cs;
+    reads = reads;
+    accepted = h;
+    are_classes = i;
+    printed = line.says;
+    true_theorem = true_theorem th (theory_is_accepted raw.name (map raw_declaration raw.decls) th h) s s.depth cs i;
+  }
+
+  pub prints_theorem : IsOutput Generate s input Done text → PrintsTheorem s input text
+  prints_theorem (too_long h line) = absurd (moved _ _ line.answers tt)
+  prints_theorem (whole short (no_token place h line)) = absurd (moved _ _ line.answers tt)
+  prints_theorem (whole short (too_large h line)) = absurd (moved _ _ line.answers tt)
+  prints_theorem (whole short (lexed ts r (too_nested h line))) = absurd (moved _ _ line.answers tt)
+  prints_theorem (whole short (lexed ts r (no_text place h i line))) = absurd (moved _ _ line.answers tt)
+  prints_theorem (whole short (lexed ts r (a_text raw h i g))) = of_raw raw (record { tokens = ts; lexed = r; shallow = h; text = i }) g
+
+  no_decline : (answer : Answer) → IsResult answer → (raw : RawTheory) → Declined s raw answer text → ⊥
+  no_decline answer r raw (refused place k h line) = no_result k place (moved _ _ line.answers r)
+  no_decline answer r raw (accepted th h (limited l i line)) = moved _ _ line.answers r
+  no_decline answer r raw (accepted th h (classes cs i line)) = moved _ _ line.answers r
+
+  of_judged : (answer : Answer) → IsResult answer → (v : RawTheory × RawOutcomes) → IsTextOf parts.Judge input v → Judged s v answer text → PrintsHeadline s input text
+  of_judged answer r v reads (of_form f o h j line) =
+      let both : v ≡ (raw_theory f, raw_outcomes s o) = λ i. (h.1 i, j.1 i) in
+      record {
+        form = f;
+        outcome = o;
+        reads = record { form = h.0; recorded = j.0; text = subst (IsTextOf parts.Judge input) both reads };
+        accepted = form_accepted f h.0;
+        printed = line.says;
+        headline = headline f o;
+      }
+  of_judged answer r v reads (of_other none d) = absurd (no_decline answer r v.0 d)
+
+  pub prints_headline : (answer : Answer) → IsResult answer → IsOutput Judge s input answer text → PrintsHeadline s input text
+  prints_headline answer r (too_long h line) = absurd (moved _ _ line.answers r)
+  prints_headline answer r (whole short (no_token place h line)) = absurd (moved _ _ line.answers r)
+  prints_headline answer r (whole short (too_large h line)) = absurd (moved _ _ line.answers r)
+  prints_headline answer r (whole short (lexed ts q (too_nested h line))) = absurd (moved _ _ line.answers r)
+  prints_headline answer r (whole short (lexed ts q (no_text place h i line))) = absurd (moved _ _ line.answers r)
+  prints_headline answer r (whole short (lexed ts q (a_text v h i g))) =
+      of_judged answer r v (record { tokens = ts; lexed = q; shallow = h; text = i }) g
+
+if_some : (P Q : List ℕ → Type 0) → ((input : List ℕ) → P input → Q input) → (o : Option (List ℕ)) → IfSome o P → IfSome o Q
+if_some P Q f None h = tt
+if_some P Q f (Some input) h = f input h
+
+-- of what was written
+pub theorem_written : (s : Settings) (text : List ℕ) (left old new : Option (List ℕ)) → IfSome left (λ input. IsOutput Generate s input Done text)
+    → Appends old new text → IsWritten (PrintsTheorem s) left old new
+theorem_written s text left old new h appended =
+    (text, if_some (λ input. IsOutput Generate s input Done text) (λ input. PrintsTheorem s input text) (λ input. prints_theorem s input text) left h, appended)
+
+pub headline_written : (s : Settings) (answer : Answer) (text : List ℕ) (left old new : Option (List ℕ)) → IsResult answer
+    → IfSome left (λ input. IsOutput Judge s input answer text) → Appends old new text → IsWritten (PrintsHeadline s) left old new
+headline_written s answer text left old new r h appended =
+    (text, if_some (λ input. IsOutput Judge s input answer text) (λ input. PrintsHeadline s input text) (λ input. prints_headline s input text answer r) left h, appended)
