@@ -1,8 +1,9 @@
 -- The lines of a report, one behind another.
-use Rattle.std.proofs.Common.{ℕ, zero, suc, ◌≡◌, ◌+◌, ◌-◌, List, [], ◌∷◌, ◌++◌, map, take, Some, None, sym, ap, ◌∙◌, arith, add-one, append_assoc, append-nil}
-use Rattle.std.specs.Prelude.{slice_get}
+use Rattle.std.proofs.Common.{ℕ, zero, suc, ◌≡◌, ◌+◌, ◌≤◌, Bool, true, false, nat_eq, ◌-◌, List, [], ◌∷◌, ◌++◌, map, take, drop, Option, Some, None, refl, sym, ap, ◌∙◌, arith, add-one, append_assoc, append-nil}
+use Rattle.std.specs.Prelude.{slice_get, if◌then◌else◌}
 use Rattle.tg_model.specs.Theory.{Theory}
 use Rattle.tg_term.specs.declared.classes.Class as code_class
+use Rattle.tg_types.specs.declared.verdicts.Verdict.{Verdict}
 use Rattle.tg_hyps.specs.Hypotheses.{seen}
 use Rattle.tg_derive.specs.Answers.{choice_of, hypothesis}
 use Rattle.tg_derive.specs.Theorem.{Choice}
@@ -10,40 +11,44 @@ use Rattle.tg_derive.specs.declared.theorems.Choice as code_choice
 use Rattle.tg_derive.specs.declared.theorems.Hypothesis as code_hypothesis
 use Rattle.tg_render.specs.Render.{written_line, written_lines}
 use Rattle.tg_render.proofs.Writing.{written-append, lines-append}
-use Rattle.tg_cmd.specs.Lines.{lines_of, classes_from, hypothesis_line, hypothesis_lines, tested_count, open_count}
+use Rattle.tg_cmd.specs.Lines.{lines_of, classes_from, hypothesis_line, hypothesis_lines, tested_count, open_count, number_of, once, count_of}
 
 module _ (th : Theory) where
-  next_from : (n : ℕ) (cs : List code_class.Class) (xs : List code_choice.Choice) (i : ℕ) (c : code_class.Class) (x : code_choice.Choice)
+  rest_at : (vs : List Verdict) (i : ℕ) → slice_get (drop 1 vs) i ≡ slice_get vs (suc i)
+  rest_at [] i = refl
+  rest_at (v ∷ vs) i = refl
+
+  next_from : (n : ℕ) (cs : List code_class.Class) (xs : List code_choice.Choice) (vs : List Verdict) (i : ℕ) (c : code_class.Class) (x : code_choice.Choice)
       → slice_get cs i ≡ Some c → slice_get xs i ≡ Some x
-      → classes_from th n (map seen (take (suc i) cs)) (map choice_of (take (suc i) xs))
-      ≡ classes_from th n (map seen (take i cs)) (map choice_of (take i xs)) ++ lines_of th (n + i) (seen c) (choice_of x)
-  next_from n [] xs i c x e f = absurd cc
-  next_from n (d ∷ cs) [] i c x e f = absurd cc
-  next_from n (d ∷ cs) (y ∷ xs) zero c x e f =
+      → classes_from th n (map seen (take (suc i) cs)) (map choice_of (take (suc i) xs)) vs
+      ≡ classes_from th n (map seen (take i cs)) (map choice_of (take i xs)) vs ++ lines_of th (n + i) (seen c) (choice_of x) (slice_get vs i)
+  next_from n [] xs vs i c x e f = absurd cc
+  next_from n (d ∷ cs) [] vs i c x e f = absurd cc
+  next_from n (d ∷ cs) (y ∷ xs) vs zero c x e f =
       let p : d ≡ c = cc e in
       let q : y ≡ x = cc f in
       let z : n ≡ n + 0 = omega arith in
-      append-nil (lines_of th n (seen d) (choice_of y)) ∙ (λ k. lines_of th (z k) (seen (p k)) (choice_of (q k)))
-  next_from n (d ∷ cs) (y ∷ xs) (suc i) c x e f =
+      append-nil (lines_of th n (seen d) (choice_of y) (slice_get vs 0)) ∙ (λ k. lines_of th (z k) (seen (p k)) (choice_of (q k)) (slice_get vs 0))
+  next_from n (d ∷ cs) (y ∷ xs) vs (suc i) c x e f =
       let z : suc n + i ≡ n + suc i = omega arith in
-      ap (λ l. lines_of th n (seen d) (choice_of y) ++ l)
-      (next_from (suc n) cs xs i c x e f
-      ∙ ap (λ m. classes_from th (suc n) (map seen (take i cs)) (map choice_of (take i xs)) ++ lines_of th m (seen c) (choice_of x)) z)
-      ∙ sym (append_assoc (lines_of th n (seen d) (choice_of y)) (classes_from th (suc n) (map seen (take i cs)) (map choice_of (take i xs)))
-      (lines_of th (n + suc i) (seen c) (choice_of x)))
+      let front = lines_of th n (seen d) (choice_of y) (slice_get vs 0) in
+      let middle = classes_from th (suc n) (map seen (take i cs)) (map choice_of (take i xs)) (drop 1 vs) in
+      ap (λ l. front ++ l)
+      (next_from (suc n) cs xs (drop 1 vs) i c x e f ∙ (λ k. middle ++ lines_of th (z k) (seen c) (choice_of x) (rest_at vs i k)))
+      ∙ sym (append_assoc front middle (lines_of th (n + suc i) (seen c) (choice_of x) (slice_get vs (suc i))))
 
-  pub class_next : (cs : List code_class.Class) (xs : List code_choice.Choice) (i number : ℕ) (c : code_class.Class) (x : code_choice.Choice) (out vs ws : List ℕ)
-      → slice_get cs i ≡ Some c → slice_get xs i ≡ Some x → number ≡ i + 1
-      → vs ≡ written_lines out (classes_from th 1 (map seen (take i cs)) (map choice_of (take i xs)))
-      → ws ≡ written_lines vs (lines_of th number (seen c) (choice_of x))
-      → ws ≡ written_lines out (classes_from th 1 (map seen (take (i + 1) cs)) (map choice_of (take (i + 1) xs)))
-  class_next cs xs i number c x out vs ws e f m v w =
+  pub class_next : (cs : List code_class.Class) (xs : List code_choice.Choice) (vs : List Verdict) (i number : ℕ) (c : code_class.Class) (x : code_choice.Choice)
+      (v : Option Verdict) (out before after : List ℕ) → slice_get cs i ≡ Some c → slice_get xs i ≡ Some x → number ≡ i + 1 → v ≡ slice_get vs i
+      → before ≡ written_lines out (classes_from th 1 (map seen (take i cs)) (map choice_of (take i xs)) vs)
+      → after ≡ written_lines before (lines_of th number (seen c) (choice_of x) v)
+      → after ≡ written_lines out (classes_from th 1 (map seen (take (i + 1) cs)) (map choice_of (take (i + 1) xs)) vs)
+  class_next cs xs vs i number c x v out before after e f m g h w =
       let z : number ≡ 1 + i = omega (arith, m) in
-      let before = classes_from th 1 (map seen (take i cs)) (map choice_of (take i xs)) in
-      w ∙ (λ k. written_lines (v k) (lines_of th (z k) (seen c) (choice_of x)))
-      ∙ sym (lines-append out before (lines_of th (1 + i) (seen c) (choice_of x)))
-      ∙ ap (written_lines out) (sym (next_from 1 cs xs i c x e f))
-      ∙ ap (λ m. written_lines out (classes_from th 1 (map seen (take m cs)) (map choice_of (take m xs)))) (sym (add-one i))
+      let front = classes_from th 1 (map seen (take i cs)) (map choice_of (take i xs)) vs in
+      w ∙ (λ k. written_lines (h k) (lines_of th (z k) (seen c) (choice_of x) (g k)))
+      ∙ sym (lines-append out front (lines_of th (1 + i) (seen c) (choice_of x) (slice_get vs i)))
+      ∙ ap (written_lines out) (sym (next_from 1 cs xs vs i c x e f))
+      ∙ ap (λ m. written_lines out (classes_from th 1 (map seen (take m cs)) (map choice_of (take m xs)) vs)) (sym (add-one i))
 
   next_line : (hs : List code_hypothesis.Hypothesis) (i : ℕ) (h : code_hypothesis.Hypothesis) → slice_get hs i ≡ Some h
       → hypothesis_lines th (map hypothesis (take (suc i) hs)) ≡ hypothesis_lines th (map hypothesis (take i hs)) ++ hypothesis_line th (hypothesis h) ∷ []
@@ -98,3 +103,27 @@ counted_next xs i x n m e so_far f g =
       omega (arith, so_far.0, f, more.0) ∙ sym (ap tested_count same),
       ap (λ l. n + m + open_count l) same ∙ omega (arith, so_far.1, g, more.1),
     )
+
+-- ---- verdicts
+
+pub verdicts_more : (w : Verdict) (vs : List Verdict) (i : ℕ) (v : Verdict) → slice_get vs i ≡ Some v
+    → count_of w (take (suc i) vs) ≡ count_of w (take i vs) + once w v
+verdicts_more w [] i v e = absurd cc
+verdicts_more w (u ∷ vs) zero v e = let p : u ≡ v = cc e in ap (λ x. once w x + 0) p ∙ omega arith
+verdicts_more w (u ∷ vs) (suc i) v e = ap (λ n. once w u + n) (verdicts_more w vs i v e) ∙ omega arith
+
+-- none is counted twice
+pub at_most_once : (w v : Verdict) → once w v ≤ 1
+at_most_once w v = by (nat_eq (number_of v) (number_of w))
+  where
+    by : (b : Bool) → (if b then 1 else 0) ≤ 1
+    by true = omega arith
+    by false = omega arith
+
+-- the count with one verdict more, which is within the places so far
+pub counted_verdict : (w : Verdict) (vs : List Verdict) (i : ℕ) (v : Verdict) (n m : ℕ) → slice_get vs i ≡ Some v
+    → (n ≡ count_of w (take i vs)) × (n ≤ i) → m ≡ once w v → (n + m ≡ count_of w (take (i + 1) vs)) × (n + m ≤ i + 1)
+counted_verdict w vs i v n m e so_far f =
+    let more = verdicts_more w vs i v e in
+    let low = at_most_once w v in
+    (omega (arith, so_far.0, f, more) ∙ ap (λ k. count_of w (take k vs)) (sym (add-one i)), omega (arith, so_far.1, f, low))

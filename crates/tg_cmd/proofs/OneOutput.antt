@@ -1,11 +1,10 @@
 -- An input has one output.
-use Rattle.std.proofs.Common.{ℕ, ◌≡◌, inl, inr, true, false, List, [], map, Some, Err, refl, sym, ◌∙◌, ap, subst, arith}
+use Rattle.std.proofs.Common.{ℕ, ◌≡◌, inl, inr, true, false, List, [], map, Err, refl, sym, ◌∙◌, ap, subst, arith}
 use Rattle.tg_accept.specs.Declared.{nothing}
 use Rattle.tg_accept.proofs.OneAnswer.{one_refusal, one_theory, not_both as never_both}
 use Rattle.tg_derive.specs.Work as work
 use Rattle.tg_derive.proofs.OneAnswer.{one_answer}
 use Rattle.tg_grammar.specs.declared.declarations.RawTheory.{RawTheory}
-use Rattle.tg_grammar.specs.declared.outcomes.RawItem.{RawItem}
 use Rattle.tg_grammar.specs.declared.outcomes.RawOutcomes.{RawOutcomes}
 use Rattle.tg_grammar.specs.Parts.{Part, Value, Theory}
 use Rattle.tg_grammar.specs.Parts as parts
@@ -29,12 +28,12 @@ use Rattle.tg_cmd.specs.declared.command.Command.{Command}
 use Rattle.tg_cmd.specs.declared.command.Command.TheVariants.{Generate, Judge}
 use Rattle.tg_cmd.specs.Answers.{refusal_line, limit_line, answer_for, line_for}
 use Rattle.tg_cmd.specs.Causes.{IsRefusal, IsLimit, OfRaw, refused, accepted, OfTokens, too_nested, no_text, a_text, OfBytes, no_token, too_large, lexed, OfInput, too_long, whole}
-use Rattle.tg_cmd.specs.Form.{Form}
-use Rattle.tg_cmd.specs.Output.{limit_of, OfClasses, limited, classes, Generated, Declined, Judged, of_form, of_other, IsOutput}
+use Rattle.tg_cmd.specs.Data.{choices_by_data}
+use Rattle.tg_cmd.specs.Judging.{verdicts_from}
+use Rattle.tg_cmd.specs.Lines.{judged_report_on}
+use Rattle.tg_cmd.specs.Output.{limit_of, OfClasses, limited, classes, Generated, ending_on, tests_of, OfOutcomes, unread, read, Judged, IsOutput}
+use Rattle.tg_cmd.proofs.RecordLaws.{not_read, one_refusal as one_outcome_refusal, one_reading as one_recording}
 use Rattle.tg_cmd.specs.Reading.{HasTokenFault, IsTooLarge}
-use Rattle.tg_cmd.specs.Report.{report}
-use Rattle.tg_cmd.specs.Verdicts.{verdict, answer_on}
-use Rattle.tg_cmd.proofs.Forms.{one_form, one_record}
 
 -- one answer and one text
 abbrev Only : (Answer → List ℕ → Type 0) → Type 0
@@ -156,22 +155,18 @@ generated : (s : Settings) (raw : RawTheory) → Only (Generated s raw)
 generated s raw =
     of_raw _ (λ th. of_classes _ (λ cs a b t u h k. (h.answers ∙ sym k.answers, h.says ∙ sym k.says)) s.depth th) raw
 
-declined : (s : Settings) (raw : RawTheory) → Only (Declined s raw)
-declined s raw = of_raw _ (λ th. of_classes _ (λ cs a b t u h k. refusals_agree _ _ refl a b t u h k) s.depth th) raw
-
-abbrev recorded : RawOutcomes → List RawItem
-recorded o = o.items
+of_outcomes : (s : Settings) (raw : RawOutcomes) (th : model.Theory) (cs : List Class) → Only (OfOutcomes s raw th cs)
+of_outcomes s raw th cs a b t u (unread e h f) (unread d i g) = one_outcome_refusal th s (tests_of s th cs) raw e d a b t u h f i g
+of_outcomes s raw th cs a b t u (unread e h f) (read os i g) = absurd (not_read th s (tests_of s th cs) raw e a t os h f i)
+of_outcomes s raw th cs a b t u (read os h f) (unread e i g) = absurd (not_read th s (tests_of s th cs) raw e b u os i g h)
+of_outcomes s raw th cs a b t u (read os h f) (read ps i g) =
+    let same = one_recording th (tests_of s th cs) [] raw.items os ps h.records i.records in (
+      f.answers ∙ ap (λ rs. ending_on (verdicts_from th 1 cs (choices_by_data th s cs) rs)) same ∙ sym g.answers,
+      f.says ∙ ap (judged_report_on th s cs) same ∙ sym g.says,
+    )
 
 judged : (s : Settings) (v : RawTheory × RawOutcomes) → Only (Judged s v)
-judged s v a b t u (of_form f o h j x) (of_form g p i k y) =
-    let same : f ≡ g = one_form f g (sym h.1 ∙ i.1) in
-    let outcomes : o ≡ p = one_record o p (ap recorded (sym j.1 ∙ k.1)) in (
-      x.answers ∙ (λ z. answer_on (verdict (same z) (outcomes z))) ∙ sym y.answers,
-      x.says ∙ (λ z. report s (same z) (Some (verdict (same z) (outcomes z)))) ∙ sym y.says,
-    )
-judged s v a b t u (of_form f o h j x) (of_other none y) = absurd (none f o h j)
-judged s v a b t u (of_other none x) (of_form g p i k y) = absurd (none g p i k)
-judged s v a b t u (of_other none x) (of_other other y) = declined s v.0 a b t u x y
+judged s v = of_raw _ (λ th. of_classes _ (of_outcomes s v.1 th) s.depth th) v.0
 
 pub one_output : (c : Command) (s : Settings) (input : List ℕ) → Only (IsOutput c s input)
 one_output Generate s input = of_input Theory (Generated s) (generated s) input

@@ -1,5 +1,5 @@
 -- What is read, what is made of it and what a run has to write.
-use Rattle.std.proofs.Common.{ℕ, ◌≡◌, ◌<◌, ◌≤◌, inl, inr, List, [], ◌∷◌, length, map, get_or, MatchOption, arith, Option, Some, None, Result, Ok, Err, IfOk, sym, ◌∙◌, ap, subst}
+use Rattle.std.proofs.Common.{ℕ, ◌<◌, ◌≤◌, inl, inr, List, length, map, Result, Ok, Err, IfOk}
 use Rattle.tg_derive.specs.declared.errors.LimitErr.{LimitErr}
 use Rattle.tg_derive.specs.declared.errors.LimitErr.TheVariants as passed
 use Rattle.tg_derive.specs.Answers.{Stops}
@@ -7,7 +7,6 @@ use Rattle.tg_derive.specs.Classes.{Derived}
 use Rattle.tg_derive.specs.Work as work
 use Rattle.tg_grammar.specs.declared.declarations.RawTheory.{RawTheory}
 use Rattle.tg_grammar.specs.declared.outcomes.RawOutcomes.{RawOutcomes}
-use Rattle.tg_grammar.specs.declared.outcomes.RawItem.{RawItem}
 use Rattle.tg_grammar.specs.Parts.{Part, Value, Theory}
 use Rattle.tg_grammar.specs.Parts as parts
 use Rattle.tg_hyps.specs.Hypotheses.{Class}
@@ -28,10 +27,7 @@ use Rattle.tg_cmd.specs.declared.command.Command.{Command}
 use Rattle.tg_cmd.specs.declared.command.Command.TheVariants.{Generate, Judge}
 use Rattle.tg_cmd.specs.Causes.{longest, IsLimit, OfRaw, refused, too_nested, no_text, a_text, no_token, too_large, lexed, OfInput, too_long, whole}
 use Rattle.tg_cmd.specs.Ends.{IsFaultLine, HasTokenLine, IsTheoryLine, IsPassedLine}
-use Rattle.tg_cmd.specs.Form.{Form, HasForm}
-use Rattle.tg_cmd.specs.Outcomes.{raw_item, raw_items, AreOutcomes}
 use Rattle.tg_cmd.specs.Output.{OfClasses, limited, Generated, Judged, IsOutput}
-use Rattle.tg_cmd.proofs.Forms.{one_form}
 
 -- ---- of a theory
 
@@ -106,27 +102,3 @@ mapped_ok P Q (Err e) f h = tt
 pub both_ok : {A E : Type 0} (P Q : A → Type 0) (r : Result A E) → IfOk r P → IfOk r Q → IfOk r (λ a. P a × Q a)
 both_ok P Q (Ok a) p q = (p, q)
 both_ok P Q (Err e) p q = tt
-
-pub other_form : (s : Settings) (raw : RawTheory) (outcomes : RawOutcomes) (g : Form) → HasForm raw g → ((o : Option ℕ) → AreOutcomes s g outcomes o → ⊥)
-    → (f : Form) (o : Option ℕ) → HasForm raw f → AreOutcomes s f outcomes o → ⊥
-other_form s raw outcomes g has none f o h k =
-    none o (subst (λ x. AreOutcomes s x outcomes o) (one_form f g (sym h.1 ∙ has.1)) k)
-
-first_item : (i j : RawItem) → i ∷ [] ≡ j ∷ [] → i ≡ j
-first_item i j e = cc
-
--- what is recorded of one item
-pub one_item : (items : List RawItem) (i : RawItem) → 1 ≤ length items → length items < 2 → i ≡ get_or items 0 i → items ≡ i ∷ []
-one_item [] i low high e = absurd (omega (arith, low))
-one_item (x ∷ []) i low high e = ap (λ y. y ∷ []) (sym e)
-one_item (x ∷ y ∷ items) i low high e = absurd (omega (arith, high))
-
-pub with_item : (items : List RawItem) (i : RawItem) (r : Option (Option ℕ)) → items ≡ i ∷ []
-    → MatchOption r ((n : ℕ) → i ≡ raw_item n → ⊥) (λ o. i ∷ [] ≡ raw_items o)
-    → MatchOption r ((o : Option ℕ) → items ≡ raw_items o → ⊥) (λ o. items ≡ raw_items o)
-with_item items i None e h = none
-  where
-    none : (o : Option ℕ) → items ≡ raw_items o → ⊥
-    none None f = let wrong : i ∷ [] ≡ [] = sym e ∙ f in absurd cc
-    none (Some n) f = let same : i ∷ [] ≡ raw_item n ∷ [] = sym e ∙ f in h n (first_item _ _ same)
-with_item items i (Some o) e h = e ∙ h

@@ -14,14 +14,14 @@ use Rattle.tg_accept.specs.Checks as checks
 use Rattle.tg_accept.specs.Checks.{Kind}
 use Rattle.tg_cmd.specs.Answers.{answer_for}
 use Rattle.tg_cmd.specs.Causes.{refused, accepted, too_nested, no_text, a_text, no_token, too_large, lexed, too_long, whole}
-use Rattle.tg_cmd.specs.Form.{raw_theory}
-use Rattle.tg_cmd.specs.Outcomes.{raw_outcomes}
-use Rattle.tg_cmd.specs.Output.{limited, classes, Generated, Declined, Judged, of_form, of_other, IsOutput, IsResult, IsWritten}
+use Rattle.tg_cmd.specs.Output.{limited, classes, Generated, IsOutcomeLine, unread, read, Judged, IsOutput, IsResult, IsWritten}
 use Rattle.tg_cmd.specs.Promises.{PrintsTheorem, PrintsHeadline}
 use Rattle.tg_cmd.specs.Reading.{IsTextOf}
-use Rattle.tg_cmd.proofs.FormAccepted.{form_accepted}
+use Rattle.tg_cmd.specs.Judging.{record_of}
+use Rattle.tg_verdict.specs.declared.errors.OutcomeErr.{OutcomeErr}
+use Rattle.tg_verdict.specs.declared.errors.OutcomeErr.TheVariants as errors
+use Rattle.tg_cmd.proofs.Headline.{headline}
 use Rattle.tg_cmd.proofs.TrueTheorems.{true_theorem}
-use Rattle.tg_cmd.proofs.Truths.{headline}
 
 -- no line in place of a result ends a run that is done
 no_result : (k : Kind) (place : ℕ) → IsResult (answer_for k place) → ⊥
@@ -61,23 +61,29 @@ module _ (s : Settings) (input text : List ℕ) where
   prints_theorem (whole short (lexed ts r (no_text place h i line))) = absurd (moved _ _ line.answers tt)
   prints_theorem (whole short (lexed ts r (a_text raw h i g))) = of_raw raw (record { tokens = ts; lexed = r; shallow = h; text = i }) g
 
-  no_decline : (answer : Answer) → IsResult answer → (raw : RawTheory) → Declined s raw answer text → ⊥
-  no_decline answer r raw (refused place k h line) = no_result k place (moved _ _ line.answers r)
-  no_decline answer r raw (accepted th h (limited l i line)) = moved _ _ line.answers r
-  no_decline answer r raw (accepted th h (classes cs i line)) = moved _ _ line.answers r
+  no_line : (e : OutcomeErr) (answer : Answer) → IsResult answer → IsOutcomeLine e answer text → ⊥
+  no_line (errors.Settings stated used) answer r line = moved _ _ line.answers r
+  no_line (errors.Unknown n) answer r line = moved _ _ line.answers r
+  no_line (errors.Repeated n) answer r line = moved _ _ line.answers r
+  no_line (errors.BadAnswer n) answer r line = moved _ _ line.answers r
+  no_line errors.Memory answer r line = line
 
   of_judged : (answer : Answer) → IsResult answer → (v : RawTheory × RawOutcomes) → IsTextOf parts.Judge input v → Judged s v answer text → PrintsHeadline s input text
-  of_judged answer r v reads (of_form f o h j line) =
-      let both : v ≡ (raw_theory f, raw_outcomes s o) = λ i. (h.1 i, j.1 i) in
-      record {
-        form = f;
-        outcome = o;
-        reads = record { form = h.0; recorded = j.0; text = subst (IsTextOf parts.Judge input) both reads };
-        accepted = form_accepted f h.0;
-        printed = line.says;
-        headline = headline f o;
-      }
-  of_judged answer r v reads (of_other none d) = absurd (no_decline answer r v.0 d)
+  of_judged answer r v reads (refused place k h line) = absurd (no_result k place (moved _ _ line.answers r))
+  of_judged answer r v reads (accepted th h (limited l i line)) = absurd (moved _ _ line.answers r)
+  of_judged answer r v reads (accepted th h (classes cs i (unread e j line))) = absurd (no_line e answer r line)
+  of_judged answer r v reads (accepted th h (classes cs i (read os j line))) = record {
+    read = v;
+    theory = th;
+    classes = cs;
+    outcomes = os;
+    reads = reads;
+    accepted = h;
+    are_classes = i;
+    are_outcomes = j;
+    printed = line.says;
+    headline = headline th (theory_is_accepted v.0.name (map raw_declaration v.0.decls) th h) s.depth cs i s (map record_of os);
+  }
 
   pub prints_headline : (answer : Answer) → IsResult answer → IsOutput Judge s input answer text → PrintsHeadline s input text
   prints_headline answer r (too_long h line) = absurd (moved _ _ line.answers r)

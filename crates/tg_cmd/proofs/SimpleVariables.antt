@@ -1,6 +1,15 @@
 -- The variables of classes are naturals and truth values.
-use Rattle.std.proofs.Common.{ℕ, zero, suc, List, [], ◌∷◌, ◌++◌, map, sym, subst}
+use Rattle.std.proofs.Common.{ℕ, zero, suc, ◌≡◌, List, [], ◌∷◌, ◌++◌, length, map, sym, subst}
 use Rattle.std.specs.List.{flat_map}
+use Rattle.tg_model.specs.Accepted.{IsAccepted}
+use Rattle.tg_model.specs.Denotation.{world, values_in}
+use Rattle.tg_model.specs.Filling.{fill, HaveVariables}
+use Rattle.tg_model.specs.Table.{Table}
+use Rattle.tg_model.specs.Tree.{Trees}
+use Rattle.tg_model.specs.Value.{Value}
+use Rattle.tg_split.specs.Laws.{AllOf, IsLinear, IsPatternOf}
+use Rattle.tg_split.proofs.Covering.{patterns_are_linear}
+use Rattle.tg_split.proofs.TypedPatterns.{patterns_are_typed}
 use Rattle.tg_model.specs.Types.{Ty, nat, bool, parameter, meta, applied, elements}
 use Rattle.tg_model.specs.Theory.{Theory, Datatype, first_constructor}
 use Rattle.tg_accept.specs.Checks.{Each}
@@ -58,22 +67,54 @@ patterns_simple th k =
     each_map (λ (p : Pattern). AreSimple p.variables) pattern_of (products (of_input th) (to_depth k th.program.inputs))
     (products_simple (of_input th) (λ (i : Input). type_simple th.datatypes i.0 i.1) (to_depth k th.program.inputs))
 
-abbrev HasSimple : Class → Type 0
-HasSimple c = AreSimple c.variables
-
 all_of : {A : Type 0} (P : A → Type 0) → ((x : A) → P x) → (xs : List A) → Each P xs
 all_of P h [] = tt
 all_of P h (x ∷ xs) = (h x, all_of P h xs)
 
-of_patterns : (th : Theory) (ps : List Pattern) → Each (λ (p : Pattern). AreSimple p.variables) ps → (cs : List Class) → AreClassesOf th ps cs → Each HasSimple cs
-of_patterns th [] s cs e = subst (λ l. Each HasSimple l) (sym e) tt
-of_patterns th (p ∷ ps) s cs a =
-    subst (λ l. Each HasSimple l) (sym a.4)
-    (each_both HasSimple a.0 a.1
-    (subst (λ l. Each HasSimple l) (sym a.2.classes)
-    (each_map HasSimple (class_of p) (minimised (flat_map clauses_of a.2.leaves))
-    (all_of (λ (c : Clause). HasSimple (class_of p c)) (λ c. s.0) (minimised (flat_map clauses_of a.2.leaves)))))
-    (of_patterns th ps s.1 a.1 a.3))
+-- what is true of the terms and the variables of each pattern is true of the inputs and the variables of each class
+module _ (P : Trees → List Ty → Type 0) where
+  abbrev OfPattern : Pattern → Type 0
+  OfPattern p = P p.terms p.variables
 
-pub simple_variables : (th : Theory) (k : ℕ) (cs : List Class) → AreClasses th k cs → Each HasSimple cs
-simple_variables th k cs h = of_patterns th (patterns th k) (patterns_simple th k) cs (classes_are_of_trees th k cs h)
+  abbrev OfClass : Class → Type 0
+  OfClass c = P c.inputs c.variables
+
+  of_patterns : (th : Theory) (ps : List Pattern) → Each OfPattern ps → (cs : List Class) → AreClassesOf th ps cs → Each OfClass cs
+  of_patterns th [] s cs e = subst (λ l. Each OfClass l) (sym e) tt
+  of_patterns th (p ∷ ps) s cs a =
+      subst (λ l. Each OfClass l) (sym a.4)
+      (each_both OfClass a.0 a.1
+      (subst (λ l. Each OfClass l) (sym a.2.classes)
+      (each_map OfClass (class_of p) (minimised (flat_map clauses_of a.2.leaves))
+      (all_of (λ (c : Clause). OfClass (class_of p c)) (λ c. s.0) (minimised (flat_map clauses_of a.2.leaves)))))
+      (of_patterns th ps s.1 a.1 a.3))
+
+  pub of_classes : (th : Theory) (k : ℕ) (cs : List Class) → AreClasses th k cs → Each OfPattern (patterns th k) → Each OfClass cs
+  of_classes th k cs h s = of_patterns th (patterns th k) s cs (classes_are_of_trees th k cs h)
+
+pub simple_variables : (th : Theory) (k : ℕ) (cs : List Class) → AreClasses th k cs → Each (λ (c : Class). AreSimple c.variables) cs
+simple_variables th k cs h = of_classes (λ inputs variables. AreSimple variables) th k cs h (patterns_simple th k)
+
+each_of : {A : Type 0} (P Q : A → Type 0) → ((x : A) → P x → Q x) → (xs : List A) → AllOf P xs → Each Q xs
+each_of P Q f [] h = tt
+each_of P Q f (x ∷ xs) h = (f x h.0, each_of P Q f xs h.1)
+
+-- Each variable of a class stands in its inputs.
+abbrev pub IsLinearClass : Class → Type 0
+IsLinearClass c = HaveVariables (length c.variables) c.inputs
+
+pub linear_classes : (th : Theory) (k : ℕ) (cs : List Class) → AreClasses th k cs → Each IsLinearClass cs
+linear_classes th k cs h =
+    of_classes (λ inputs variables. HaveVariables (length variables) inputs) th k cs h
+    (each_of IsLinear (λ (p : Pattern). HaveVariables (length p.variables) p.terms) (λ p l. l.have) (patterns th k)
+    (patterns_are_linear th (to_depth k th.program.inputs)))
+
+-- The inputs of a class have on each table the values that it has at the values of its variables.
+abbrev pub IsFilledClass : Theory → Class → Type 0
+IsFilledClass th c = (tb : Table) (vs : List Value) → values_in (world th tb) vs [] c.inputs ≡ fill vs c.inputs
+
+pub filled_classes : (th : Theory) → IsAccepted th → (k : ℕ) (cs : List Class) → AreClasses th k cs → Each (IsFilledClass th) cs
+filled_classes th accepted k cs h =
+    of_classes (λ inputs variables. (tb : Table) (vs : List Value) → values_in (world th tb) vs [] inputs ≡ fill vs inputs) th k cs h
+    (each_of (IsPatternOf th th.program.inputs) (λ (p : Pattern). (tb : Table) (vs : List Value) → values_in (world th tb) vs [] p.terms ≡ fill vs p.terms)
+    (λ p l. l.value) (patterns th k) (patterns_are_typed th k accepted))

@@ -1,5 +1,5 @@
 -- What answers mean to the caller of the program.
-use Rattle.std.specs.Prelude.{ℕ, List, ◌++◌, codes, decimal}
+use Rattle.std.specs.Prelude.{ℕ, List, ◌++◌, get_or, codes, decimal}
 use Rattle.tg_lex.specs.Load.{load_limit}
 use Rattle.tg_accept.specs.Checks as checks
 use Rattle.tg_accept.specs.Checks.{Kind}
@@ -8,7 +8,7 @@ use Rattle.tg_cmd.specs.declared.answer.Answer.TheVariants.{Done, TestsFailed, U
 use Rattle.tg_cmd.specs.declared.answer.Ending.{Ending}
 use Rattle.tg_cmd.specs.declared.answer.Ending.TheVariants as endings
 use Rattle.tg_cmd.specs.declared.answer.Refusal.{Refusal}
-use Rattle.tg_cmd.specs.declared.answer.Refusal.TheVariants.{Early, Form, Name, Typing, Ambiguous, Shape, Program}
+use Rattle.tg_cmd.specs.declared.answer.Refusal.TheVariants.{Form, Name, Typing, Ambiguous, Shape, Program, Settings, Unknown, Repeated, BadAnswer}
 use Rattle.tg_cmd.specs.declared.answer.LimitName.{LimitName}
 use Rattle.tg_cmd.specs.declared.answer.LimitName.TheVariants.{Input, Number, Nesting, TermSize, Patterns, Splits, Steps, Clauses}
 
@@ -22,14 +22,24 @@ status_of Memory = 5
 status_of (Refused refusal) = 6
 status_of (Limit name) = 7
 
+-- the five settings of a header, in its order
+abbrev pub settings_text : List ℕ → List ℕ
+settings_text ns =
+    codes "depth " ++ (decimal (get_or ns 0 0) ++ (codes " bound " ++ (decimal (get_or ns 1 0) ++ (codes " seed " ++ (decimal (get_or ns 2 0)
+    ++ (codes " tries " ++ (decimal (get_or ns 3 0) ++ (codes " width " ++ decimal (get_or ns 4 0)))))))))
+
 -- the lines that are written in place of a result, each ended by LF
 abbrev pub refusal_line : Refusal → List ℕ
-refusal_line Early = codes "refused early\n"
 refusal_line (Form place) = codes "refused form at declaration " ++ (decimal place ++ codes "\n")
 refusal_line (Name place) = codes "refused name at declaration " ++ (decimal place ++ codes "\n")
 refusal_line (Typing place) = codes "refused typing at declaration " ++ (decimal place ++ codes "\n")
 refusal_line (Ambiguous place) = codes "refused ambiguous at declaration " ++ (decimal place ++ codes "\n")
 refusal_line (Shape place) = codes "refused shape at declaration " ++ (decimal place ++ codes "\n")
+refusal_line (Settings stated used) =
+    codes "refused settings stated " ++ (settings_text stated ++ (codes " used " ++ (settings_text used ++ codes "\n")))
+refusal_line (Unknown test) = codes "refused unknown at test " ++ (decimal test ++ codes "\n")
+refusal_line (Repeated test) = codes "refused repeated at test " ++ (decimal test ++ codes "\n")
+refusal_line (BadAnswer test) = codes "refused answer at test " ++ (decimal test ++ codes "\n")
 refusal_line (Program place) = codes "refused program at declaration " ++ (decimal place ++ codes "\n")
 
 abbrev pub limit_line : LimitName → List ℕ

@@ -1,5 +1,5 @@
 -- What a run reads and writes.
-use Rattle.std.specs.Prelude.{ℕ, ◌+◌, ◌≡◌, ◌<◌, ◌⊎◌, List, length, take, Option, Some, IfSome}
+use Rattle.std.specs.Prelude.{ℕ, ◌+◌, ◌≡◌, ◌<◌, ◌⊎◌, nat_eq, if◌then◌else◌, List, length, map, take, Option, IfSome}
 use Rattle.std.specs.Io.KnownBytes.{Consumes, IsAtEnd, Appends}
 use Rattle.tg_io.specs.Faults.{Rose}
 use Rattle.tg_model.specs.Theory as model
@@ -11,19 +11,23 @@ use Rattle.tg_grammar.specs.Parts as parts
 use Rattle.tg_hyps.specs.Hypotheses.{Class}
 use Rattle.tg_derive.specs.Work as work
 use Rattle.tg_derive.specs.Classes.{Derived, AreClasses}
+use Rattle.tg_term.specs.declared.classes.Outcome.{Outcome}
+use Rattle.tg_types.specs.declared.verdicts.Verdict.{Verdict}
+use Rattle.tg_types.specs.declared.verdicts.Verdict.TheVariants.{Failed}
+use Rattle.tg_verdict.specs.declared.errors.OutcomeErr.{OutcomeErr}
+use Rattle.tg_verdict.specs.declared.errors.OutcomeErr.TheVariants as errors
+use Rattle.tg_verdict.specs.Records.{AreOutcomes, Stops}
+use Rattle.tg_cmd.specs.declared.answer.Refusal.TheVariants as refusals
 use Rattle.tg_cmd.specs.declared.answer.Answer.{Answer}
 use Rattle.tg_cmd.specs.declared.answer.Answer.TheVariants.{Done, TestsFailed, Usage, ReadFault, WriteFault, Memory, Refused, Limit}
 use Rattle.tg_cmd.specs.declared.answer.LimitName.{LimitName}
 use Rattle.tg_cmd.specs.declared.answer.LimitName.TheVariants as limits
-use Rattle.tg_cmd.specs.declared.answer.Refusal.TheVariants.{Early}
 use Rattle.tg_cmd.specs.declared.command.Command.{Command}
 use Rattle.tg_cmd.specs.declared.command.Command.TheVariants.{Generate, Judge}
 use Rattle.tg_cmd.specs.Causes.{longest, IsRefusal, IsLimit, OfRaw, OfInput}
-use Rattle.tg_cmd.specs.Form.{Form, HasForm}
-use Rattle.tg_cmd.specs.Lines.{report_on}
-use Rattle.tg_cmd.specs.Outcomes.{AreOutcomes}
-use Rattle.tg_cmd.specs.Report.{report}
-use Rattle.tg_cmd.specs.Verdicts.{verdict, answer_on}
+use Rattle.tg_cmd.specs.Data.{choices_by_data}
+use Rattle.tg_cmd.specs.Judging.{Record, record_of, tests_from, verdicts_from}
+use Rattle.tg_cmd.specs.Lines.{count_of, report_on, judged_report_on}
 
 -- the limits of the work on classes
 abbrev pub limit_of : work.Limit → LimitName
@@ -48,18 +52,34 @@ Generated s = OfRaw (λ th. OfClasses (IsReport s th) s.depth th)
 
 -- ---- `judge`
 
-pub record IsJudgement (s : Settings) (f : Form) (o : Option ℕ) (answer : Answer) (text : List ℕ) : Type 0 where
-  pub answers : answer ≡ answer_on (verdict f o)
-  pub says : text ≡ report s f (Some (verdict f o))
+-- some test failed
+abbrev pub ending_on : List Verdict → Answer
+ending_on vs = if nat_eq (count_of Failed vs) 0 then Done else TestsFailed
 
--- an accepted theory, or outcomes, of another form than is judged so far
-abbrev pub Declined : Settings → RawTheory → Answer → List ℕ → Type 0
-Declined s = OfRaw (λ th. OfClasses (λ cs. IsRefusal Early) s.depth th)
+pub record IsJudgement (s : Settings) (th : model.Theory) (cs : List Class) (rs : List Record) (answer : Answer) (text : List ℕ) : Type 0 where
+  pub answers : answer ≡ ending_on (verdicts_from th 1 cs (choices_by_data th s cs) rs)
+  pub says : text ≡ judged_report_on th s cs rs
 
--- a theory of the form and the outcome of its test, or another one
-pub data Judged (s : Settings) (read : RawTheory × RawOutcomes) (answer : Answer) (text : List ℕ) : Type 0 where
-  of_form : (f : Form) (o : Option ℕ) → HasForm read.0 f → AreOutcomes s f read.1 o → IsJudgement s f o answer text → Judged s read answer text
-  of_other : ((f : Form) (o : Option ℕ) → HasForm read.0 f → AreOutcomes s f read.1 o → ⊥) → Declined s read.0 answer text → Judged s read answer text
+-- the numbers of the tests
+abbrev pub tests_of : Settings → model.Theory → List Class → List ℕ
+tests_of s th cs = tests_from 1 (choices_by_data th s cs)
+
+-- the line where outcomes aren't those of the tests
+abbrev pub IsOutcomeLine : OutcomeErr → Answer → List ℕ → Type 0
+IsOutcomeLine (errors.Settings stated used) answer text = IsRefusal (refusals.Settings stated used) answer text
+IsOutcomeLine (errors.Unknown n) answer text = IsRefusal (refusals.Unknown n) answer text
+IsOutcomeLine (errors.Repeated n) answer text = IsRefusal (refusals.Repeated n) answer text
+IsOutcomeLine (errors.BadAnswer n) answer text = IsRefusal (refusals.BadAnswer n) answer text
+IsOutcomeLine errors.Memory answer text = ⊥
+
+-- Of outcomes as they are read: they are refused, or they are those of the tests and are judged.
+pub data OfOutcomes (s : Settings) (raw : RawOutcomes) (th : model.Theory) (cs : List Class) (answer : Answer) (text : List ℕ) : Type 0 where
+  unread : (e : OutcomeErr) → Stops th s (tests_of s th cs) raw e → IsOutcomeLine e answer text → OfOutcomes s raw th cs answer text
+  read : (os : List Outcome) → AreOutcomes th s (tests_of s th cs) raw os → IsJudgement s th cs (map record_of os) answer text
+      → OfOutcomes s raw th cs answer text
+
+abbrev pub Judged : Settings → RawTheory × RawOutcomes → Answer → List ℕ → Type 0
+Judged s v = OfRaw (λ th. OfClasses (OfOutcomes s v.1 th) s.depth th) v.0
 
 -- ---- a run
 

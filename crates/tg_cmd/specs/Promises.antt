@@ -1,7 +1,14 @@
 -- What is promised of the test theorem that a report prints.
-use Rattle.std.specs.Prelude.{ℕ, ◌≡◌, List, [], Option, Some, map}
+use Rattle.std.specs.Prelude.{ℕ, suc, ◌≡◌, false, List, [], ◌∷◌, Option, Some, None, map}
 use Rattle.tg_model.specs.Theory.{Theory}
 use Rattle.tg_model.specs.Table.{Table, IsTable}
+use Rattle.tg_model.specs.Denotation.{den}
+use Rattle.tg_model.specs.Filling.{fill}
+use Rattle.tg_model.specs.Value.{boolean}
+use Rattle.tg_term.specs.declared.classes.Outcome.{Outcome}
+use Rattle.tg_grammar.specs.declared.outcomes.RawOutcomes.{RawOutcomes}
+use Rattle.tg_types.specs.declared.verdicts.Verdict.TheVariants.{Passed, Failed}
+use Rattle.tg_verdict.specs.Records.{AreOutcomes}
 use Rattle.tg_model.specs.Truth.{AllHold, IsTrueOn, SatisfiesSpecification}
 use Rattle.tg_types.specs.declared.options.Settings.{Settings}
 use Rattle.tg_accept.specs.Declared.{nothing}
@@ -13,12 +20,10 @@ use Rattle.tg_infer.specs.View.{raw_declaration}
 use Rattle.tg_derive.specs.Classes.{AreClasses}
 use Rattle.tg_derive.specs.Theorem.{Choice, theorem_of, assumptions_of}
 use Rattle.tg_cmd.specs.Data.{choices_by_data}
-use Rattle.tg_cmd.specs.Form.{Form, raw_theory}
-use Rattle.tg_cmd.specs.Lines.{report_on}
-use Rattle.tg_cmd.specs.Reading.{IsTextOf, IsAcceptedTheory, ReadsJudged}
-use Rattle.tg_cmd.specs.Report.{report}
-use Rattle.tg_cmd.specs.Truths.{IsHeadline}
-use Rattle.tg_cmd.specs.Verdicts.{verdict}
+use Rattle.tg_cmd.specs.Judging.{Record, record_of, recorded, verdict_of, verdicts_from, choices_by_verdicts, HasOutcome}
+use Rattle.tg_cmd.specs.Lines.{report_on, judged_report_on}
+use Rattle.tg_cmd.specs.Output.{tests_of}
+use Rattle.tg_cmd.specs.Reading.{IsTextOf}
 
 -- The theorem of these classes and choices is true on every table; and on every table where the specification holds, so does each
 -- hypothesis that no test shows, each uniformity, open class and regularity.
@@ -37,11 +42,42 @@ pub record PrintsTheorem (s : Settings) (input text : List ℕ) : Type 0 where
   pub printed : text ≡ report_on theory s classes
   pub true_theorem : IsTrueTheorem theory s.depth classes (choices_by_data theory s classes)
 
--- The text is the report on the theory of the form and the outcome that the input reads as, and the headline is true of them.
+-- Of each class that is judged passed the table has the outcome.
+abbrev pub HasPassed : Theory → Table → ℕ → List Class → List Choice → List Record → Type 0
+HasPassed th tb n (c ∷ cs) (x ∷ xs) rs =
+    (verdict_of th c x (recorded rs n) ≡ Passed → HasOutcome tb c x (recorded rs n)) × HasPassed th tb (suc n) cs xs rs
+HasPassed th tb n _ _ rs = Unit {0}
+
+-- The class is judged failed, so the specification is False at its datum on every table that has its outcome.
+abbrev pub IsRefuted : Theory → Class → Choice → Option Record → Type 0
+IsRefuted th c None o = Unit {0}
+IsRefuted th c (Some vs) o = verdict_of th c (Some vs) o ≡ Failed → (tb : Table) → IsTable th tb → HasOutcome tb c (Some vs) o
+    → den th tb (fill vs c.inputs) [] th.specification ≡ boolean false
+
+abbrev pub EachIsRefuted : Theory → ℕ → List Class → List Choice → List Record → Type 0
+EachIsRefuted th n (c ∷ cs) (x ∷ xs) rs = IsRefuted th c x (recorded rs n) × EachIsRefuted th (suc n) cs xs rs
+EachIsRefuted th n _ _ rs = Unit {0}
+
+-- What a run has shown that judges classes with these data by what is recorded. The printed theorem is true on every table. On every
+-- table that has the outcomes that are judged passed, the specification holds if the printed hypotheses do that aren't outcomes; and it
+-- implies each of these on every table. Where an outcome is judged failed, the specification is False at its datum on every table that
+-- has it.
+pub record IsHeadline (th : Theory) (k : ℕ) (cs : List Class) (xs : List Choice) (rs : List Record) : Type 0 where
+  pub true_theorem : IsTrueTheorem th k cs (choices_by_verdicts xs (verdicts_from th 1 cs xs rs))
+  pub specification : (tb : Table) → IsTable th tb → HasPassed th tb 1 cs xs rs
+      → AllHold th tb [] (assumptions_of th k cs (choices_by_verdicts xs (verdicts_from th 1 cs xs rs))) → SatisfiesSpecification th tb
+  pub refuted : EachIsRefuted th 1 cs xs rs
+
+-- The text is the report on the theory that the input reads as, with its classes, by the outcomes that it reads as, and the headline is
+-- true of them.
 pub record PrintsHeadline (s : Settings) (input text : List ℕ) : Type 0 where
-  pub form : Form
-  pub outcome : Option ℕ
-  pub reads : ReadsJudged s input form outcome
-  pub accepted : IsAcceptedTheory (raw_theory form)
-  pub printed : text ≡ report s form (Some (verdict form outcome))
-  pub headline : IsHeadline form outcome (verdict form outcome)
+  pub read : RawTheory × RawOutcomes
+  pub theory : Theory
+  pub classes : List Class
+  pub outcomes : List Outcome
+  pub reads : IsTextOf parts.Judge input read
+  pub accepted : IsTheoryOf read.0.name nothing (map raw_declaration read.0.decls) theory
+  pub are_classes : AreClasses theory s.depth classes
+  pub are_outcomes : AreOutcomes theory s (tests_of s theory classes) read.1 outcomes
+  pub printed : text ≡ judged_report_on theory s classes (map record_of outcomes)
+  pub headline : IsHeadline theory s.depth classes (choices_by_data theory s classes) (map record_of outcomes)

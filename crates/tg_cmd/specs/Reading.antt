@@ -1,22 +1,16 @@
 -- What the bytes of an input are: a text of the grammar, or why they are none.
-use Rattle.std.specs.Prelude.{ℕ, ◌≡◌, ◌⊎◌, false, List, Option, map}
+use Rattle.std.specs.Prelude.{ℕ, ◌≡◌, ◌⊎◌, false, List, map}
 use Rattle.tg_lex.specs.declared.token.Token.{Token}
 use Rattle.tg_lex.specs.Grammar.{Reads, HasWrongByte, HasOpenComment, HasLargeNumber}
 use Rattle.tg_lex.specs.Load.{load_limit, load_passes}
 use Rattle.tg_grammar.specs.Seen.{seen, declarations}
 use Rattle.tg_grammar.specs.Parts.{Part, Value}
-use Rattle.tg_grammar.specs.Parts as parts
 use Rattle.tg_grammar.specs.Reading.{IsText}
 use Rattle.tg_accept.specs.Checks.{Kind}
 use Rattle.tg_accept.specs.Declared.{nothing}
-use Rattle.tg_accept.specs.Theories.{IsTheoryOf, IsRefused}
-use Rattle.tg_model.specs.Theory.{Theory}
+use Rattle.tg_accept.specs.Theories.{IsRefused}
 use Rattle.tg_grammar.specs.declared.declarations.RawTheory.{RawTheory}
 use Rattle.tg_infer.specs.View.{raw_declaration}
-use Rattle.tg_types.specs.declared.options.Settings.{Settings}
-use Rattle.tg_cmd.specs.Form.{Form, IsForm, raw_theory}
-use Rattle.tg_cmd.specs.Outcomes.{raw_outcomes}
-use Rattle.tg_cmd.specs.Verdicts.{IsOutcome}
 
 -- the bytes have tokens whose load of nesting is allowed, and they are a text of the part
 pub record IsTextOf (n : Part) (bytes : List ℕ) (value : Value n) : Type 0 where
@@ -36,18 +30,6 @@ IsTooLarge bytes = (at : ℕ) × (before : List Token) × HasLargeNumber bytes a
 
 -- ---- the theory
 
--- it is accepted
-abbrev pub IsAcceptedTheory : RawTheory → Type 0
-IsAcceptedTheory t = (th : Theory) × IsTheoryOf t.name nothing (map raw_declaration t.decls) th
-
 -- the first fault is of this kind, at declaration `place`
 abbrev pub IsRefusedTheory : RawTheory → ℕ → Kind → Type 0
 IsRefusedTheory t place k = IsRefused nothing 1 (map raw_declaration t.decls) place k
-
--- ---- the form
-
--- the bytes are a theory of the form and the outcome of its test, in outcomes of these settings
-pub record ReadsJudged (s : Settings) (bytes : List ℕ) (f : Form) (outcome : Option ℕ) : Type 0 where
-  pub form : IsForm f
-  pub recorded : IsOutcome f outcome
-  pub text : IsTextOf parts.Judge bytes (raw_theory f, raw_outcomes s outcome)

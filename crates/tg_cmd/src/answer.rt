@@ -1,5 +1,6 @@
 ghost use Rattle.std.specs.Prelude.{◌≡◌, ◌++◌, OnOk, codes, decimal};
-ghost use Rattle.tg_cmd.specs.Answers.{status_of, refusal_line, limit_line};
+ghost use Rattle.tg_cmd.specs.Answers.{status_of, refusal_line, limit_line, settings_text};
+ghost use Rattle.tg_cmd.specs.declared.answer.Refusal.TheVariants as refusals;
 
 use std::alloc::AllocError;
 use tg_lex::LOAD_LIMIT;
@@ -34,9 +35,6 @@ pub enum Answer {
 /// Why an input was refused.
 #[derive(Clone, Copy, Debug, PartialEq, Eq, Error)]
 pub enum Refusal {
-    /// The theory is accepted, but the input isn't of the form that is taken so far.
-    #[error("refused early")]
-    Early,
     /// The input is no text of the grammar.
     #[error("refused form at declaration {decl}")]
     Form {
@@ -73,6 +71,32 @@ pub enum Refusal {
     Program {
         /// The number of the declaration, from 1; behind all of them where one is missing.
         decl: u64,
+    },
+    /// The header of the outcomes states other settings than those in use, in the order depth, bound, seed, tries, width.
+    #[error("refused settings stated depth {} bound {} seed {} tries {} width {} used depth {} bound {} seed {} tries {} width {}", .stated[0], .stated[1], .stated[2], .stated[3], .stated[4], .used[0], .used[1], .used[2], .used[3], .used[4])]
+    Settings {
+        /// The settings of the header.
+        stated: [u64; 5],
+        /// The settings in use.
+        used: [u64; 5],
+    },
+    /// A record is of no test.
+    #[error("refused unknown at test {test}")]
+    Unknown {
+        /// The number in the record.
+        test: u64,
+    },
+    /// A record is of a test that has one already.
+    #[error("refused repeated at test {test}")]
+    Repeated {
+        /// The number in the record.
+        test: u64,
+    },
+    /// An answer is no value of the program's answer type.
+    #[error("refused answer at test {test}")]
+    BadAnswer {
+        /// The number in the record.
+        test: u64,
     },
 }
 
@@ -139,21 +163,56 @@ pub(crate) fn put_refusal(out: &mut Vec<u8>, refusal: Refusal) -> Result<(), All
     ensures { OnOk result (out.new.items ≡ out.old.items ++ refusal_line refusal) }
 {
     match refusal {
-        Refusal::Early => put(out, &[Text(b"refused early\n")]),
         Refusal::Form { decl } => put_place(out, b"refused form at declaration ", decl),
         Refusal::Name { decl } => put_place(out, b"refused name at declaration ", decl),
         Refusal::Typing { decl } => put_place(out, b"refused typing at declaration ", decl),
         Refusal::Ambiguous { decl } => put_place(out, b"refused ambiguous at declaration ", decl),
         Refusal::Shape { decl } => put_place(out, b"refused shape at declaration ", decl),
         Refusal::Program { decl } => put_place(out, b"refused program at declaration ", decl),
+        Refusal::Settings { stated, used } => put_settings(out, &stated, &used),
+        Refusal::Unknown { test } => put_place(out, b"refused unknown at test ", test),
+        Refusal::Repeated { test } => put_place(out, b"refused repeated at test ", test),
+        Refusal::BadAnswer { test } => put_place(out, b"refused answer at test ", test),
     }
 }
 
-/// A line that ends with the number of a declaration.
+/// A line that ends with a number, that of a declaration or of a test.
 fn put_place(out: &mut Vec<u8>, words: &[u8], decl: u64) -> Result<(), AllocError>
     ensures { OnOk result (out.new.items ≡ out.old.items ++ (words.now ++ (decimal decl ++ codes "\n"))) }
 {
     put(out, &[Text(words), Number(decl), Text(b"\n")])
+}
+
+/// The line of two lists of settings.
+fn put_settings(out: &mut Vec<u8>, stated: &[u64; 5], used: &[u64; 5]) -> Result<(), AllocError>
+    ensures { OnOk result (out.new.items ≡ out.old.items ++ refusal_line (refusals.Settings stated.now used.now)) }
+{
+    put(out, &[Text(b"refused settings stated ")])?;
+    put_header(out, stated)?;
+    put(out, &[Text(b" used ")])?;
+    put_header(out, used)?;
+    put(out, &[Text(b"\n")])
+}
+
+/// Settings in the order of a header.
+fn put_header(out: &mut Vec<u8>, s: &[u64; 5]) -> Result<(), AllocError>
+    ensures { OnOk result (out.new.items ≡ out.old.items ++ settings_text s.now) }
+{
+    put(
+        out,
+        &[
+            Text(b"depth "),
+            Number(s[0]),
+            Text(b" bound "),
+            Number(s[1]),
+            Text(b" seed "),
+            Number(s[2]),
+            Text(b" tries "),
+            Number(s[3]),
+            Text(b" width "),
+            Number(s[4]),
+        ],
+    )
 }
 
 /// The line that is written in place of a result.

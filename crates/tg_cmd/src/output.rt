@@ -1,38 +1,38 @@
-ghost use Rattle.std.specs.Prelude.{◌≡◌, ◌≤◌, List, All, length, IfOk, IfErr, IfSome, OnOk, OnErr};
+ghost use Rattle.std.specs.Prelude.{◌≡◌, ◌≤◌, All, length, map, IfOk, IfErr, IfSome, OnOk, OnErr};
 ghost use Rattle.tg_lex.specs.Answers.{IsFirstFault};
 ghost use Rattle.tg_lex.specs.Grammar.{Reads, IsTokenOf};
 ghost use Rattle.tg_grammar.specs.Seen.{seen, declarations};
 ghost use Rattle.tg_cmd.specs.declared.answer.Refusal.TheVariants as refusals;
-ghost use Rattle.tg_cmd.specs.declared.answer.Refusal.TheVariants.{Early};
 ghost use Rattle.tg_cmd.specs.Answers.{answer_after};
 ghost use Rattle.tg_cmd.specs.Causes.{longest, IsRefusal, IsLimit};
-ghost use Rattle.tg_cmd.specs.Output.{IsOutput, IsRead, IsStop, IsReport, IsJudgement, OfClasses, Generated, Judged, Declined};
+ghost use Rattle.tg_cmd.specs.Output.{IsOutput, IsRead, IsStop, IsReport, IsJudgement, OfClasses, OfOutcomes, Generated, Judged, IsOutcomeLine};
 ghost use Rattle.tg_cmd.specs.Ends.{IsFaultLine, HasTokenLine, IsTheoryLine, IsPassedLine};
 ghost use Rattle.tg_infer.specs.TextNames.{IsNamed};
-ghost use Rattle.tg_derive.specs.Answers.{Stops};
-ghost use Rattle.tg_derive.specs.Classes.{Derived, AreClasses};
-ghost use Rattle.tg_hyps.specs.Hypotheses.{Class};
-ghost use Rattle.tg_cmd.specs.Report.{report};
-ghost use Rattle.tg_cmd.specs.Verdicts.{verdict};
-ghost use Rattle.tg_cmd.specs.Views.{form_view};
+ghost use Rattle.tg_cmd.specs.Data.{choices_by_data};
+ghost use Rattle.tg_cmd.specs.Judging.{record_of};
+ghost use Rattle.tg_cmd.specs.Tests.{test, tests_at};
+ghost use Rattle.tg_derive.specs.Answers.{choice_of};
+ghost use Rattle.tg_derive.specs.Classes.{AreClasses};
+ghost use Rattle.tg_hyps.specs.Hypotheses as hyps;
+ghost use Rattle.tg_verdict.specs.Places.{AreOnce, outcome_number};
 
 use crate::answer::{Answer, Ending, LimitName, Refusal, put_limit, put_refusal};
 use crate::command::Command;
-use crate::form::{Form, form_of};
-use crate::form_report::form_report;
+use crate::data::choices_by_data;
+use crate::judging::{ending_on, tests_of};
 use crate::options::Request;
-use crate::outcomes::outcome_of;
-use crate::report::report_on;
-use crate::verdict::{ending_on, verdict};
+use crate::report::{judged_report_on, report_on};
 use std::alloc::{AllocError, Global};
-use tg_derive::{LimitErr, classes};
+use tg_derive::{Choice, LimitErr, classes};
 use tg_grammar::{RawOutcomes, RawTheory, place};
 use tg_infer::{TheoryErr, elaborate};
 use tg_io::{ReadErr, Source, read_all};
 use tg_lex::{LexErr, Token, lex};
 use tg_syntax::{FormErr, parse_judge, parse_theory};
+use tg_term::{Class, Outcome, Test};
 use tg_theory::Theory;
 use tg_types::Settings;
+use tg_verdict::{OutcomeErr, judge, read};
 
 /// How many bytes are read at the most.
 const LONGEST: usize = 16_777_216;
@@ -196,6 +196,7 @@ fn unaccepted(alloc: Global, error: TheoryErr) -> Result<Output, NoMemory>
     }
 }
 
+/// The judgement on a theory, or the line that says why there is none.
 fn judged(
     alloc: Global,
     settings: &Settings,
@@ -205,56 +206,91 @@ fn judged(
     requires { IsNamed read.now }
     ensures { IfOk result (λ o. Judged settings.now (read.now, outcomes.now) (answer_after o.ending) o.text.items) }
 {
-    match form_of(read) {
-        Some(form) => match outcome_of(settings, &form, outcomes) {
-            Some(answer) => judgement(alloc, settings, &form, answer),
-            None => declined(alloc, settings, read),
-        },
-        None => declined(alloc, settings, read),
-    }
-}
-
-/// The output where the input isn't of the form that is judged.
-fn declined(alloc: Global, settings: &Settings, read: &RawTheory) -> Result<Output, NoMemory>
-    requires { IsNamed read.now }
-    ensures { IfOk result (λ o. Declined settings.now read.now (answer_after o.ending) o.text.items) }
-{
     match elaborate(alloc, read) {
-        Ok(theory) => early(alloc, settings, &theory),
+        Ok(theory) => judged_theory(alloc, settings, &theory, outcomes),
         Err(error) => unaccepted(alloc, error),
     }
 }
 
-fn early(alloc: Global, settings: &Settings, theory: &Theory) -> Result<Output, NoMemory>
-    ensures { IfOk result (λ o. OfClasses (λ cs. IsRefusal Early) settings.now.depth theory.now (answer_after o.ending) o.text.items) }
+fn judged_theory(
+    alloc: Global,
+    settings: &Settings,
+    theory: &Theory,
+    outcomes: &RawOutcomes,
+) -> Result<Output, NoMemory>
+    ensures { IfOk result (λ o. OfClasses (OfOutcomes settings.now outcomes.now theory.now) settings.now.depth theory.now (answer_after o.ending) o.text.items) }
 {
-    match check_limits(alloc, theory, settings.depth) {
-        Ok(()) => refused(alloc, Refusal::Early),
+    match classes(alloc, theory, settings.depth) {
+        Ok(classes) => judged_classes(alloc, settings, theory, classes.as_slice(), outcomes),
         Err(error) => without_classes(alloc, error),
     }
 }
 
-/// Tells the first limit on classes that is passed.
-fn check_limits(alloc: Global, theory: &Theory, depth: u8) -> Result<(), LimitErr>
-    ensures classes { OnOk result ((cs : List Class) × AreClasses theory.now depth cs) }
-    ensures limit { IfErr result (Stops (Derived theory.now depth)) }
+fn judged_classes(
+    alloc: Global,
+    settings: &Settings,
+    theory: &Theory,
+    classes: &[Class],
+    outcomes: &RawOutcomes,
+) -> Result<Output, NoMemory>
+    requires { AreClasses theory.now settings.now.depth (map hyps.seen classes.now) }
+    ensures { IfOk result (λ o. OfOutcomes settings.now outcomes.now theory.now (map hyps.seen classes.now) (answer_after o.ending) o.text.items) }
 {
-    classes(alloc, theory, depth)?;
-    Ok(())
+    theory.accepted();
+    let choices = choices_by_data(alloc, theory, settings, classes)?;
+    let tests = tests_of(alloc, classes, choices.as_slice())?;
+    match read(alloc, theory, settings, tests.as_slice(), outcomes) {
+        Ok(list) => judgement(
+            alloc,
+            settings,
+            theory,
+            classes,
+            choices.as_slice(),
+            tests.as_slice(),
+            list.as_slice(),
+        ),
+        Err(error) => unread(alloc, error),
+    }
 }
 
+/// The output where the outcomes aren't those of the tests.
+fn unread(alloc: Global, error: OutcomeErr) -> Result<Output, NoMemory>
+    ensures { IfOk result (λ o. IsOutcomeLine error (answer_after o.ending) o.text.items) }
+{
+    match error {
+        OutcomeErr::Settings { stated, used } => {
+            refused(alloc, Refusal::Settings { stated, used })
+        }
+        OutcomeErr::Unknown { n } => refused(alloc, Refusal::Unknown { test: n }),
+        OutcomeErr::Repeated { n } => refused(alloc, Refusal::Repeated { test: n }),
+        OutcomeErr::BadAnswer { n } => refused(alloc, Refusal::BadAnswer { test: n }),
+        OutcomeErr::Memory => Err(NoMemory),
+    }
+}
+
+/// The report on classes with these data and tests, by the outcomes.
 fn judgement(
     alloc: Global,
     settings: &Settings,
-    form: &Form,
-    answer: Option<u64>,
+    theory: &Theory,
+    classes: &[Class],
+    choices: &[Choice],
+    tests: &[Test],
+    list: &[Outcome],
 ) -> Result<Output, NoMemory>
-    ensures { IfOk result (λ o. IsJudgement settings.now (form_view form.now) answer (answer_after o.ending) o.text.items) }
+    requires classes { AreClasses theory.now settings.now.depth (map hyps.seen classes.now) }
+    requires choices { map choice_of choices.now ≡ choices_by_data theory.now settings.now (map hyps.seen classes.now) }
+    requires tests { map test tests.now ≡ tests_at 1 (map hyps.seen classes.now) (map choice_of choices.now) }
+    requires once { AreOnce (map outcome_number list.now) }
+    ensures { IfOk result (λ o. IsJudgement settings.now theory.now (map hyps.seen classes.now) (map record_of list.now) (answer_after o.ending) o.text.items) }
 {
-    let verdict = verdict(form, answer);
+    theory.accepted();
+    let verdicts = judge(alloc, theory, classes, tests, list)?;
+    let verdicts = verdicts.as_slice();
+    let ending = ending_on(verdicts);
     Ok(Output {
-        text: form_report(alloc, settings, form, Some(verdict))?,
-        ending: ending_on(verdict),
+        text: judged_report_on(alloc, theory, settings, classes, choices, verdicts)?,
+        ending,
     })
 }
 

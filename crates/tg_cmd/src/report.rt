@@ -1,11 +1,13 @@
 //! The report on a theory.
-ghost use Rattle.std.specs.Prelude.{◌≡◌, ◌+◌, ◌∷◌, [], IfOk, OnOk, length, map, decimal};
-ghost use Rattle.tg_cmd.specs.Lines.{head_lines, lines_of, classes_from, label_tokens, hypothesis_line, hypothesis_lines, theorem_lines, tested_count, open_count, counts_line, report_lines, report_on};
+ghost use Rattle.std.specs.Prelude.{◌≡◌, ◌+◌, ◌∷◌, [], IfOk, OnOk, length, map, slice_get, decimal};
+ghost use Rattle.tg_cmd.specs.Lines.{head_lines, lines_of, classes_from, label_tokens, hypothesis_line, hypothesis_lines, theorem_lines, tested_count, open_count, counts_line, report_lines, report_on, verdicts_line, judged_lines};
+ghost use Rattle.tg_cmd.specs.Judging.{choices_by_verdicts};
 ghost use Rattle.tg_derive.specs.Answers.{choice_of, hypothesis, label_of};
 ghost use Rattle.tg_hyps.specs.Hypotheses.{seen};
-ghost use Rattle.tg_render.specs.Render.{put, written, written_line, written_lines};
+ghost use Rattle.tg_render.specs.Render.{put, written, written_line, written_lines, lines};
 
 use crate::data::choices_by_data;
+use crate::judging::{choices_by_verdicts, count_of};
 use sqlite_items::Items;
 use std::alloc::{AllocError, Global};
 use tg_derive::{Choice, Hypothesis, Label, hypotheses};
@@ -14,7 +16,7 @@ use tg_render::{end_line, put_number, put_token};
 use tg_report::{put_class, put_formula, put_settings_line};
 use tg_term::{Class, Test, fill};
 use tg_theory::Theory;
-use tg_types::Settings;
+use tg_types::{Settings, Verdict};
 
 /// The report on a theory of these classes: the classes with their data, the test theorem and the counts.
 pub(crate) fn report_on(
@@ -45,9 +47,61 @@ fn put_report(
     ensures { OnOk result (out.new.items ≡ written_lines out.old.items (report_lines th.now s.now (map seen classes.now) (map choice_of choices.now))) }
 {
     put_head(out, th, s)?;
-    put_classes(alloc, out, th, classes, choices)?;
+    put_classes(alloc, out, th, classes, choices, &[])?;
     put_theorem(alloc, out, th, s.depth, classes, choices)?;
     put_counts(out, choices)
+}
+
+/// The report on a theory of these classes, where they are judged so: the classes with their data and verdicts, the theorem in which
+/// those that passed are tested, and the verdicts' counts.
+pub(crate) fn judged_report_on(
+    alloc: Global,
+    th: &Theory,
+    s: &Settings,
+    classes: &[Class],
+    choices: &[Choice],
+    verdicts: &[Verdict],
+) -> Result<Vec<u8>, AllocError>
+    requires choices { length classes.now ≡ length choices.now }
+    requires verdicts { length choices.now ≡ length verdicts.now }
+    ensures { IfOk result (λ text. text.items ≡ lines (judged_lines th.now s.now (map seen classes.now) (map choice_of choices.now) verdicts.now)) }
+{
+    let chosen = choices_by_verdicts(alloc, choices, verdicts)?;
+    let mut out = Vec::new(alloc);
+    put_judged(
+        alloc,
+        &mut out,
+        th,
+        s,
+        classes,
+        choices,
+        verdicts,
+        chosen.as_slice(),
+    )?;
+    Ok(out)
+}
+
+/// Writes the report where the theorem's choices are the last ones.
+#[tactic(auto, using(crate::proofs::LineLaws::writing))]
+fn put_judged(
+    alloc: Global,
+    out: &mut Vec<u8>,
+    th: &Theory,
+    s: &Settings,
+    classes: &[Class],
+    choices: &[Choice],
+    verdicts: &[Verdict],
+    chosen: &[Choice],
+) -> Result<(), AllocError>
+    requires choices { length classes.now ≡ length choices.now }
+    requires chosen { length classes.now ≡ length chosen.now }
+    requires by_verdicts { map choice_of chosen.now ≡ choices_by_verdicts (map choice_of choices.now) verdicts.now }
+    ensures { OnOk result (out.new.items ≡ written_lines out.old.items (judged_lines th.now s.now (map seen classes.now) (map choice_of choices.now) verdicts.now)) }
+{
+    put_head(out, th, s)?;
+    put_classes(alloc, out, th, classes, choices, verdicts)?;
+    put_theorem(alloc, out, th, s.depth, classes, chosen)?;
+    put_verdicts(out, verdicts)
 }
 
 /// Writes the theory's name and the settings.
@@ -60,7 +114,7 @@ fn put_head(out: &mut Vec<u8>, th: &Theory, s: &Settings) -> Result<(), AllocErr
     put_settings_line(out, s)
 }
 
-/// Writes the classes with their data.
+/// Writes the classes with their data, and with their verdicts as far as there are such.
 #[tactic(auto, using(crate::proofs::LineLaws::writing))]
 fn put_classes(
     alloc: Global,
@@ -68,18 +122,38 @@ fn put_classes(
     th: &Theory,
     classes: &[Class],
     choices: &[Choice],
+    verdicts: &[Verdict],
 ) -> Result<(), AllocError>
     requires { length classes.now ≡ length choices.now }
-    ensures { OnOk result (out.new.items ≡ written_lines out.old.items (classes_from th.now 1 (map seen classes.now) (map choice_of choices.now))) }
+    ensures { OnOk result (out.new.items ≡ written_lines out.old.items (classes_from th.now 1 (map seen classes.now) (map choice_of choices.now) verdicts.now)) }
 {
     for (at, c) in classes.iter().enumerate() {
         let number = u32::try_from(at + 1).map_err(|_| AllocError)?;
-        put_chosen(alloc, out, th, number, c, &choices[at])?;
+        put_chosen(
+            alloc,
+            out,
+            th,
+            number,
+            c,
+            &choices[at],
+            verdict_at(verdicts, at),
+        )?;
     }
     Ok(())
 }
 
-/// Writes the class of this number with its datum, if it is tested.
+/// The verdict at a place, if there is one.
+fn verdict_at(verdicts: &[Verdict], at: usize) -> Option<Verdict>
+    ensures { result ≡ slice_get verdicts.now at }
+{
+    if at < verdicts.len() {
+        Some(verdicts[at])
+    } else {
+        None
+    }
+}
+
+/// Writes the class of this number with its datum, if it is tested, and its verdict, if there is one.
 fn put_chosen(
     alloc: Global,
     out: &mut Vec<u8>,
@@ -87,8 +161,9 @@ fn put_chosen(
     number: u32,
     c: &Class,
     choice: &Choice,
+    verdict: Option<Verdict>,
 ) -> Result<(), AllocError>
-    ensures { OnOk result (out.new.items ≡ written_lines out.old.items (lines_of th.now number (seen c.now) (choice_of choice.now))) }
+    ensures { OnOk result (out.new.items ≡ written_lines out.old.items (lines_of th.now number (seen c.now) (choice_of choice.now) verdict)) }
 {
     match choice {
         Choice::Tested(values) => {
@@ -97,9 +172,9 @@ fn put_chosen(
                 class: number,
                 datum: Items::from_vec(datum),
             };
-            put_class(out, th, number, c, Some(&test), None)
+            put_class(out, th, number, c, Some(&test), verdict)
         }
-        Choice::Assumed => put_class(out, th, number, c, None, None),
+        Choice::Assumed => put_class(out, th, number, c, None, verdict),
     }
 }
 
@@ -173,6 +248,19 @@ fn put_counts(out: &mut Vec<u8>, choices: &[Choice]) -> Result<(), AllocError>
     put_number(out, tested as u64)?;
     put_token(out, b"open")?;
     put_number(out, (choices.len() - tested) as u64)?;
+    end_line(out)
+}
+
+/// Writes how many classes have each verdict.
+fn put_verdicts(out: &mut Vec<u8>, verdicts: &[Verdict]) -> Result<(), AllocError>
+    ensures { OnOk result (out.new.items ≡ written_line out.old.items (verdicts_line verdicts.now)) }
+{
+    put_numbered(out, b"passed", count_of(verdicts, Verdict::Passed))?;
+    put_numbered(out, b"failed", count_of(verdicts, Verdict::Failed))?;
+    put_numbered(out, b"undecided", count_of(verdicts, Verdict::Undecided))?;
+    put_numbered(out, b"raised", count_of(verdicts, Verdict::Raised))?;
+    put_numbered(out, b"missing", count_of(verdicts, Verdict::Missing))?;
+    put_numbered(out, b"open", count_of(verdicts, Verdict::NoDatum))?;
     end_line(out)
 }
 

@@ -325,37 +325,105 @@ fn at_most_is_met_by_equal_numbers(rt: HostRuntime) -> Result<(), Fail> {
 }
 
 #[test]
-fn an_answer_of_a_class_without_a_datum_is_refused(rt: HostRuntime) -> Result<(), Fail> {
+fn a_class_without_a_datum_has_no_test(rt: HostRuntime) -> Result<(), Fail> {
     let theory =
         b"theory Inc version 1 begin program put :: nat => nat; spec x . x < 0 --> x < put x; end";
     let (answer, sink) = judged(rt.alloc(), theory, ANSWERED_1)?;
-    assert_eq!(rt; answer, Answer::Refused(Refusal::Early));
-    assert_eq!(rt; sink.bytes(), b"refused early\n".as_slice());
+    assert_eq!(rt; answer, Answer::Refused(Refusal::Unknown { test: 1 }));
+    assert_eq!(rt; answer.status(), 6);
+    assert_eq!(rt; sink.bytes(), b"refused unknown at test 1\n".as_slice());
     let (answer, _) = judged(rt.alloc(), theory, NOTHING_RECORDED)?;
     assert_eq!(rt; answer, Answer::Done);
     Ok(())
 }
 
+const SORTED: &[u8] = b"
+outcomes depth 3 bound 8 seed 1 tries 1000 width 16 begin
+answer 1 Nil;
+answer 2 Cons 0 Nil;
+answer 3 (Cons 0 (Cons 0 Nil));
+answer 4 (Cons 0 (Cons 1 Nil));
+end
+";
+
 #[test]
-fn judging_another_theory_is_refused_early(rt: HostRuntime) -> Result<(), Fail> {
-    let (answer, sink) = judged(rt.alloc(), SORT, NOTHING_RECORDED)?;
-    assert_eq!(rt; answer, Answer::Refused(Refusal::Early));
-    assert_eq!(rt; answer.status(), 6);
-    assert_eq!(rt; sink.bytes(), b"refused early\n".as_slice());
+fn sorted_lists_pass(rt: HostRuntime) -> Result<(), Fail> {
+    let (answer, sink) = judged(rt.alloc(), SORT, SORTED)?;
+    assert_eq!(rt; answer, Answer::Done);
+    assert!(rt;
+        sink.bytes().ends_with(
+            b"
+regularity (THYP (ALL (nat list). ((tested !1) --> ((deep 3 !1) --> [((put !1) = (isort !1))]))))
+conclusion (ALL (nat list). ((tested !1) --> [((put !1) = (isort !1))]))
+passed 4 failed 0 undecided 0 raised 0 missing 0 open 0
+"
+        )
+    );
     Ok(())
 }
 
 #[test]
-fn other_outcomes_are_refused(rt: HostRuntime) -> Result<(), Fail> {
-    let outcomes: [&[u8]; 4] = [
-        b" outcomes depth 2 bound 8 seed 1 tries 1000 width 16 begin end",
-        b" outcomes depth 3 bound 8 seed 1 tries 1000 width 16 begin answer 2 1; end",
-        b" outcomes depth 3 bound 8 seed 1 tries 1000 width 16 begin raised 1; end",
-        b" outcomes depth 3 bound 8 seed 1 tries 1000 width 16 begin answer 1 1; answer 1 1; end",
+fn other_verdicts_leave_their_classes_open(rt: HostRuntime) -> Result<(), Fail> {
+    let outcomes =
+        b" outcomes depth 3 bound 8 seed 1 tries 1000 width 16 begin answer 1 Nil; raised 2; answer 4 (Cons 1 (Cons 0 Nil)); end";
+    let (answer, sink) = judged(rt.alloc(), SORT, outcomes)?;
+    assert_eq!(rt; answer, Answer::TestsFailed);
+    assert_eq!(rt; answer.status(), 1);
+    assert!(rt;
+        sink.bytes().ends_with(
+            b"
+conclusion (ALL (nat list). ((tested !1) --> [((put !1) = (isort !1))]))
+passed 1 failed 1 undecided 0 raised 1 missing 1 open 0
+"
+        )
+    );
+    Ok(())
+}
+
+#[test]
+fn outcomes_of_other_settings_are_refused(rt: HostRuntime) -> Result<(), Fail> {
+    let outcomes = b" outcomes depth 2 bound 8 seed 7 tries 1000 width 16 begin end";
+    let (answer, sink) = judged(rt.alloc(), INC, outcomes)?;
+    assert_eq!(rt;
+        answer,
+        Answer::Refused(Refusal::Settings {
+            stated: [2, 8, 7, 1000, 16],
+            used: [3, 8, 1, 1000, 16],
+        })
+    );
+    assert_eq!(rt;
+        sink.bytes(),
+        b"refused settings stated depth 2 bound 8 seed 7 tries 1000 width 16 used depth 3 bound 8 seed 1 tries 1000 width 16\n".as_slice()
+    );
+    Ok(())
+}
+
+#[test]
+fn a_wrong_record_is_refused(rt: HostRuntime) -> Result<(), Fail> {
+    let head = b" outcomes depth 3 bound 8 seed 1 tries 1000 width 16 begin ";
+    let records: [(&[u8], Refusal, &[u8]); 3] = [
+        (
+            b"raised 2; end",
+            Refusal::Unknown { test: 2 },
+            b"refused unknown at test 2\n",
+        ),
+        (
+            b"raised 1; answer 1 True; end",
+            Refusal::Repeated { test: 1 },
+            b"refused repeated at test 1\n",
+        ),
+        (
+            b"answer 1 True; end",
+            Refusal::BadAnswer { test: 1 },
+            b"refused answer at test 1\n",
+        ),
     ];
-    for outcome in outcomes {
-        let (answer, _) = judged(rt.alloc(), INC, outcome)?;
-        assert_eq!(rt; answer, Answer::Refused(Refusal::Early));
+    for (record, refusal, line) in records {
+        let mut outcomes = Vec::from_slice(rt.alloc(), head)?;
+        outcomes.extend_from_slice(record)?;
+        let (answer, sink) = judged(rt.alloc(), INC, outcomes.as_slice())?;
+        assert_eq!(rt; answer, Answer::Refused(refusal));
+        assert_eq!(rt; sink.bytes(), line);
     }
     let (answer, _) = judged(rt.alloc(), INC, b"")?;
     assert_eq!(rt; answer, Answer::Refused(Refusal::Form { decl: 2 }));

@@ -91,7 +91,7 @@ or_right true b e = refl
 or_right false b e = e
 
 module _ (th : Theory) (tb : Table) (well : IsWellTyped th) (table : IsTable th tb) (vars : List Ty) (closed : AreClosed th (tys vars)) (vs : List Value) (typed : AreTyped th vs vars) where
-  value_of_truth : (t : Tree) → IsTyped th vars [] t bool → (b : Bool) × (den th tb vs [] t ≡ boolean b)
+  pub value_of_truth : (t : Tree) → IsTyped th vars [] t bool → (b : Bool) × (den th tb vs [] t ≡ boolean b)
   value_of_truth t h = truth_value th (den th tb vs [] t) (soundness th tb well table vars [] vs [] t bool closed tt tt typed tt h)
 
   decide_some : (ts : List Tree) → AreTruths th vars ts → Decides th tb vs ts
@@ -121,10 +121,10 @@ module _ (th : Theory) (tb : Table) (well : IsWellTyped th) (table : IsTable th 
         ]),
       )
 
-  from_checked : (ts : List Tree) → AreTruths th vars ts → den th tb vs [] (some_of ts) ≡ boolean true → SomeTrue th tb vs ts
+  pub from_checked : (ts : List Tree) → AreTruths th vars ts → den th tb vs [] (some_of ts) ≡ boolean true → SomeTrue th tb vs ts
   from_checked ts h e = let d = decide_some ts h in d.2 (same_boolean d.0 true (sym d.1 ∙ e))
 
-  to_checked : (ts : List Tree) → AreTruths th vars ts → SomeTrue th tb vs ts → den th tb vs [] (some_of ts) ≡ boolean true
+  pub to_checked : (ts : List Tree) → AreTruths th vars ts → SomeTrue th tb vs ts → den th tb vs [] (some_of ts) ≡ boolean true
   to_checked ts h some = let d = decide_some ts h in d.1 ∙ ap boolean (d.3 some)
 
 -- ---- classes
