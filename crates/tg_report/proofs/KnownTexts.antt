@@ -14,10 +14,10 @@ use Rattle.tg_report.specs.TermTexts.{term_tokens}
 use Rattle.tg_report.specs.FormulaTexts.{formula_tokens}
 
 -- lists, pairs of two types, and the program `put`
-abbrev constructor : List ℕ → List types.Ty → Constructor
+abbrev pub constructor : List ℕ → List types.Ty → Constructor
 constructor name args = record { name = name; arguments = args }
 
-abbrev sample : Theory
+abbrev pub sample : Theory
 sample = record {
   name = codes "Sample";
   datatypes =

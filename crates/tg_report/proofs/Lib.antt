@@ -15,3 +15,11 @@ mod TermShapes
 mod BinderShapes
 mod TermReading
 mod FormulaReading
+mod NamePlaces
+mod RawParts
+mod SameTypes
+mod SameTerms
+mod SameFormulas
+mod SameValues
+mod TypedTexts
+mod KnownReadings

@@ -5,6 +5,7 @@ pub mod ValueTexts
 pub mod TermTexts
 pub mod FormulaTexts
 pub mod ClassTexts
+pub mod SmallNumbers
 pub mod RawTypes
 pub mod RawValues
 pub mod RawTerms

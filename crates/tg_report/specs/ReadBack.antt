@@ -1,7 +1,9 @@
 -- What is written is read back: the text of a type, a value, a term or a formula is a text of the grammar, which means the same with
 -- the names of what it uses.
-use Rattle.std.specs.Prelude.{ℕ, List}
+use Rattle.std.specs.Prelude.{◌≡◌, ℕ, List, length}
 use Rattle.tg_model.specs.Theory.{Theory, IsClosed}
+use Rattle.tg_model.specs.Accepted.{IsAccepted}
+use Rattle.tg_model.specs.TermTyping.{IsTyped, IsWellFormed}
 use Rattle.tg_model.specs.Types.{Ty}
 use Rattle.tg_model.specs.Tree.{Tree}
 use Rattle.tg_model.specs.Formula as model
@@ -19,6 +21,7 @@ use Rattle.tg_report.specs.FormulaTexts.{formula_tokens}
 use Rattle.tg_report.specs.RawTypes.{raw_ty}
 use Rattle.tg_report.specs.RawValues.{raw_value, IsNamed}
 use Rattle.tg_report.specs.RawTerms.{raw_term, HasText}
+use Rattle.tg_report.specs.SmallNumbers.{HasSmallNumbers, FormulaHasSmallNumbers}
 use Rattle.tg_report.specs.RawFormulas.{raw_formula, FormulaHasText}
 
 -- The bytes have these tokens, which are a text of the part with this value.
@@ -42,3 +45,32 @@ TermsReadBack = (th : Theory) (level : ℕ) (t : Tree) → IsWritten th → HasT
 abbrev pub FormulasReadBack : Type 0
 FormulasReadBack = (th : Theory) (level : ℕ) (f : model.Formula) → IsWritten th → FormulaHasText th level f
     → IsReadBack Formula (raw_formula th level f) (formula_tokens th level f)
+
+-- In an accepted theory two closed types with one text are equal,
+abbrev pub TellsTypes : Type 0
+TellsTypes = (th : Theory) (t u : Ty) → IsAccepted th → IsWritten th → IsClosed th t → IsClosed th u
+    → render (ty_tokens th t) ≡ render (ty_tokens th u) → t ≡ u
+
+-- and so are two values,
+abbrev pub TellsValues : Type 0
+TellsValues = (th : Theory) (v w : values.Value) → IsAccepted th → IsWritten th → IsNamed th v → IsNamed th w
+    → render (value_tokens th v) ≡ render (value_tokens th w) → v ≡ w
+
+-- two terms within the same number of binders,
+abbrev pub TellsTerms : Type 0
+TellsTerms = (th : Theory) (level : ℕ) (t u : Tree) → IsAccepted th → IsWritten th → HasText th level t → HasText th level u
+    → render (term_tokens th level t) ≡ render (term_tokens th level u) → t ≡ u
+
+-- and two formulas.
+abbrev pub TellsFormulas : Type 0
+TellsFormulas = (th : Theory) (level : ℕ) (f g : model.Formula) → IsAccepted th → IsWritten th → FormulaHasText th level f → FormulaHasText th level g
+    → render (formula_tokens th level f) ≡ render (formula_tokens th level g) → f ≡ g
+
+-- A typed term with small numbers has a text, and so has a well-formed formula.
+abbrev pub TypedHasText : Type 0
+TypedHasText = (th : Theory) (vars locs : List Ty) (t : Tree) (u : Ty) → IsAccepted th → IsTyped th vars locs t u
+    → HasSmallNumbers (length locs) t → HasText th (length locs) t
+
+abbrev pub WellFormedHasText : Type 0
+WellFormedHasText = (th : Theory) (vars locs : List Ty) (f : model.Formula) → IsAccepted th → IsWellFormed th vars locs f
+    → FormulaHasSmallNumbers (length locs) f → FormulaHasText th (length locs) f

@@ -18,7 +18,7 @@ mod values;
 
 pub use classes::{put_class, put_settings, put_settings_line};
 pub use formulas::put_formula;
-pub use laws::read_back;
+pub use laws::{read_back, told_by_texts, typed_texts};
 pub use terms::{put_term, put_terms};
 pub use texts::{class_text, formula_text, settings_text, term_text, ty_text, value_text};
 pub use types::put_ty;

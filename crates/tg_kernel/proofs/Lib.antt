@@ -1,4 +1,0 @@
-pub mod DerivedRules
-pub mod Formed
-pub mod Replacing
-pub mod TrueOnTables

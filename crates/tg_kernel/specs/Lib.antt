@@ -1,4 +1,0 @@
-pub mod Hypotheses
-pub mod Replacement
-pub mod Derivation
-pub mod Laws
