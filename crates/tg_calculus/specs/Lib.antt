@@ -1,0 +1,13 @@
+pub mod Sequent
+pub mod Replacement
+pub mod Cases
+pub mod Chains
+pub mod Computing
+pub mod Rule
+pub mod Step
+pub mod Derivation
+pub mod Replacing
+pub mod Draft
+pub mod Book
+pub mod Theorem
+pub mod Laws
