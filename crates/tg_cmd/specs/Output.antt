@@ -139,10 +139,10 @@ IsWriteFault Memory = ⊥
 IsWriteFault (Refused refusal) = ⊥
 IsWriteFault (Limit name) = ⊥
 
--- why no output could be made: a read fault, where the source's count rose, or want of memory
+-- why no output could be made: a read fault, where the source's count rose, or want of memory, where it stayed
 abbrev pub IsStop : Answer → ℕ → ℕ → Type 0
 IsStop ReadFault before after = Rose before after
-IsStop Memory before after = Unit {0}
+IsStop Memory before after = after ≡ before
 IsStop Done before after = ⊥
 IsStop TestsFailed before after = ⊥
 IsStop Usage before after = ⊥

@@ -50,6 +50,7 @@ pub fn run<S: Source, K: Sink>(
     ensures unread { result ≡ Answer.Usage → source.new ≡ source.old }
     ensures read_fault { result ≡ Answer.ReadFault → Rose (S.faults source.old) (S.faults source.new) }
     ensures write_fault { IsWriteFault result → Rose (K.faults sink.old) (K.faults sink.new) }
+    ensures memory { result ≡ Answer.Memory → (S.faults source.new ≡ S.faults source.old) × (K.faults sink.new ≡ K.faults sink.old) }
     ensures silent { IsSilent result → sink.new ≡ sink.old }
     ensures complete { (c : Command) (s : Settings) → ReadsWords words.now c s → IfSome (S.left source.old) (λ input. Completes c s input result) }
     ensures theorem { (s : Settings) → ReadsWords words.now Generate s → result ≡ Answer.Done → IsWritten (PrintsTheorem s) (S.left source.old) (K.written sink.old) (K.written sink.new) }

@@ -1,12 +1,14 @@
 -- The hypotheses of classes, one class after the other.
-use Rattle.std.proofs.Common.{ℕ, zero, suc, ◌≡◌, ◌+◌, ◌<◌, List, [], ◌∷◌, ◌++◌, map, take, length, Some, refl, ap, sym, ◌∙◌, append_assoc, add-one, arith}
+use Rattle.std.proofs.Common.{ℕ, zero, suc, ◌≡◌, ◌+◌, List, [], ◌∷◌, ◌++◌, map, take, Some, ap, sym, ◌∙◌, append_assoc, add-one, arith}
 use Rattle.std.specs.Prelude.{slice_get}
 use Rattle.std.proofs.lemmas.List.{append-nil}
 use Rattle.tg_term.specs.declared.classes.Class as code_class
 use Rattle.tg_hyps.specs.Hypotheses.{seen}
 use Rattle.tg_derive.specs.declared.theorems.Choice as code_choice
-use Rattle.tg_derive.specs.Theorem.{Hypothesis, of_class, of_classes}
-use Rattle.tg_derive.specs.Answers.{choice_of}
+use Rattle.tg_derive.specs.declared.theorems.Hypothesis as code_hypothesis
+use Rattle.tg_derive.specs.Theorem.{Hypothesis, of_class, of_classes, formulas}
+use Rattle.tg_derive.specs.Answers.{choice_of, hypothesis}
+use Rattle.tg_model.specs.Formula.{Formula}
 
 next_from : (n : ℕ) (cs : List code_class.Class) (xs : List code_choice.Choice) (i : ℕ) (c : code_class.Class) (x : code_choice.Choice)
     → slice_get cs i ≡ Some c → slice_get xs i ≡ Some x
@@ -37,3 +39,17 @@ class_next cs xs i c x vs ws e f v w =
 pub ruleset numbering = (class_next)
 
 pub ruleset adding = (append_assoc)
+
+-- a formula more
+pub formula_next : (hs : List code_hypothesis.Hypothesis) (i : ℕ) (h : code_hypothesis.Hypothesis) (vs ws : List Formula) → slice_get hs i ≡ Some h
+    → vs ≡ formulas (map hypothesis (take i hs)) → ws ≡ vs ++ h.formula ∷ [] → ws ≡ formulas (map hypothesis (take (i + 1) hs))
+formula_next hs i h vs ws e v w =
+    w ∙ ap (λ l. l ++ h.formula ∷ []) v ∙ sym (next hs i e) ∙ ap (λ m. formulas (map hypothesis (take m hs))) (sym (add-one i))
+  where
+    next : (hs : List code_hypothesis.Hypothesis) (i : ℕ) → slice_get hs i ≡ Some h
+        → formulas (map hypothesis (take (suc i) hs)) ≡ formulas (map hypothesis (take i hs)) ++ h.formula ∷ []
+    next [] i e = absurd cc
+    next (g ∷ hs) zero e = let p : g ≡ h = cc e in ap (λ x. x.formula ∷ []) p
+    next (g ∷ hs) (suc i) e = ap (λ l. g.formula ∷ l) (next hs i e)
+
+pub ruleset sequents = (formula_next)

@@ -13,7 +13,7 @@ ghost use Rattle.tg_derive.specs.Laws.{IsOneAnswer, ClassesAreOfTrees, ClassesCo
 
 pub use errors::LimitErr;
 pub use listing::classes;
-pub use theorems::{Choice, Hypothesis, Label, hypotheses};
+pub use theorems::{Choice, Hypothesis, Label, goal, hypotheses};
 
 /// The work on a theory to a depth comes to one answer: its classes, or the first limit that it passes. The classes are
 /// those of the split trees of the patterns, classes of the theory, and their constraints don't call the program.

@@ -1,12 +1,14 @@
 //! The hypotheses of the test theorem.
 ghost use Rattle.std.specs.Prelude.{◌≡◌, ◌∷◌, ◌++◌, [], IfOk, OnOk, length, map};
-ghost use Rattle.tg_derive.specs.Theorem.{labelled, hypotheses_of, of_class, of_classes};
+ghost use Rattle.tg_derive.specs.Theorem.{labelled, hypotheses_of, of_class, of_classes, formulas, theorem_of};
+ghost use Rattle.tg_kernel.specs.Sequents.{sequent};
 ghost use Rattle.tg_derive.specs.Answers.{choice_of, label_of, hypothesis};
 ghost use Rattle.tg_hyps.specs.Hypotheses.{seen};
 
 use sqlite_items::Items;
 use std::alloc::{AllocError, Global};
-use tg_hyps::{open_class, regularity, test, uniformity};
+use tg_hyps::{conclusion, open_class, regularity, test, uniformity};
+use tg_kernel::Sequent;
 use tg_term::{Class, Formula, Value};
 use tg_theory::Theory;
 
@@ -101,4 +103,38 @@ fn add(hs: &mut Vec<Hypothesis>, label: Label, formula: Formula) -> Result<(), A
 {
     hs.push(Hypothesis { label, formula })?;
     Ok(())
+}
+
+/// The test theorem of these classes, as a sequent without variables: from the hypotheses, the specification at every tested
+/// input.
+pub fn goal(
+    alloc: Global,
+    th: &Theory,
+    depth: u8,
+    classes: &[Class],
+    choices: &[Choice],
+) -> Result<Sequent, AllocError>
+    requires { length classes.now ≡ length choices.now }
+    ensures { IfOk result (λ s. sequent s ≡ theorem_of th.now depth (map seen classes.now) (map choice_of choices.now)) }
+{
+    let hs = hypotheses(alloc, th, depth, classes, choices)?;
+    let hyps = formulas(alloc, hs.as_slice())?;
+    let goal = conclusion(alloc, th)?;
+    Ok(Sequent {
+        vars: Items::new(alloc),
+        hyps,
+        goal,
+    })
+}
+
+/// The formulas of hypotheses.
+#[tactic(auto, using(crate::proofs::HypothesisLaws::sequents))]
+fn formulas(alloc: Global, hs: &[Hypothesis]) -> Result<Items<Formula>, AllocError>
+    ensures { IfOk result (λ fs. fs ≡ formulas (map hypothesis hs.now)) }
+{
+    let mut fs = Items::new(alloc);
+    for h in hs {
+        fs.push(h.formula.share()?)?;
+    }
+    Ok(fs)
 }
