@@ -7,8 +7,9 @@ PROGRAM is crates/testgen/out/testgen where none is named. A case is a folder of
   status  the exit status            out   standard output, byte for byte      err   standard error, byte for byte
 
 After them come cases that are made here: each front of a theory with the place of its fault, inputs of the greatest size and
-one byte more, theories that are accepted or refused (theories.py), and four texts with every kind of token in every place,
-whose faults viable.py tells.
+one byte more, theories that are accepted or refused (theories.py), long reports and those at each limit and past it (reports.py),
+each rewrite schema on a term to which it applies and on one close by (rewriting.py), and four texts with every kind of token in
+every place, whose faults viable.py tells.
 
 The last line is 'N passed, N failed'; the exit status is 0 where none failed and some passed.
 """
@@ -18,6 +19,8 @@ import re
 import subprocess
 import sys
 
+import reports
+import rewriting
 import theories
 import viable
 
@@ -97,12 +100,40 @@ def faults(program, words, data, status, out, err):
     return [f'  {name}: {have!r}\n  in place of {want!r}' for name, have, want in pairs if have != want]
 
 
+def theory_faults(program, words, data, status, line):
+    """A theory that is accepted has a report, and another one its line."""
+    run = subprocess.run([program, *words], input=data, stdout=subprocess.PIPE, stderr=subprocess.PIPE, timeout=120)
+    right = run.stdout == line == run.stderr if line else run.stdout.startswith(b'testgen T\n') and not run.stderr
+    return [] if right and run.returncode == status else [f'  status {run.returncode}, {run.stdout[:200]!r}\n  in place of {status}, {line!r}']
+
+
+def report_faults(program, words, data, status, lines, last):
+    """The report has these lines in this order, and ends so."""
+    run = subprocess.run([program, *words], input=data, stdout=subprocess.PIPE, stderr=subprocess.PIPE, timeout=120)
+    have = run.stdout.decode().split('\n')
+    at = 0
+    for line in lines:
+        if line not in have[at:]:
+            return [f'  no line {line!r} behind line {at}']
+        at = have.index(line, at) + 1
+    return [] if run.returncode == status and have[-2:] == [last, ''] else [f'  status {run.returncode}, end {have[-2:]}\n  in place of {status}, {last!r}']
+
+
+def form_faults(program, words, data, line):
+    """The report has one class, without a constraint, with this check."""
+    run = subprocess.run([program, *words], input=data, stdout=subprocess.PIPE, stderr=subprocess.PIPE, timeout=120)
+    have = [text for text in run.stdout.split(b'\n') if text.startswith((b'class ', b'constraint', b'check'))]
+    return [] if have == [b'class 1', line] else [f'  {have!r}\n  in place of {line!r}']
+
+
 def main():
     program = os.path.abspath(sys.argv[1] if len(sys.argv) > 1 else os.path.join(HERE, '..', 'crates/testgen/out/testgen'))
     if not os.access(program, os.X_OK):
         print(f'no program stands at {program}: rt ci makes it\n0 passed, 1 failed')
         return 1
-    cases = [(faults, case) for case in (*stored(), *cuts(), *sizes(), *theories.cases())] + [(token_faults, case) for case in tokens()]
+    cases = [(faults, case) for case in (*stored(), *cuts(), *sizes())]
+    for check, made in ((theory_faults, theories.cases()), (report_faults, reports.cases()), (form_faults, rewriting.cases()), (token_faults, tokens())):
+        cases += [(check, case) for case in made]
     passed = failed = 0
     with concurrent.futures.ThreadPoolExecutor() as pool:
         for (_, case), found in zip(cases, pool.map(lambda c: c[0](program, *c[1][1:]), cases)):
