@@ -1,18 +1,23 @@
 -- Drafts on small premises, known by hand: an instance of each rule, and for each of its conditions a refusal. The order of kept
 -- hypotheses is pinned here; truth doesn't depend on it.
-use Rattle.std.proofs.Common.{ℕ, ◌≡◌, true, false, refl, List, [], ◌∷◌, None}
+use Rattle.std.proofs.Common.{ℕ, ◌≡◌, true, false, refl, sym, ◌∙◌, List, [], ◌∷◌, None, Some}
 use Rattle.tg_model.specs.Tree as tree
 use Rattle.tg_model.specs.Tree.{Tree, bound, free, literal, truth, con, call, put, op, one, two, trees, plus, less, negation}
-use Rattle.tg_model.specs.Types.{nat, bool, applied, tys}
+use Rattle.tg_model.specs.Types.{Ty, nat, bool, parameter, applied, tys}
+use Rattle.tg_model.specs.Theory.{numbered}
+use Rattle.tg_model.specs.TermTyping.{Typing, leaf, type_of, IsTyping}
+use Rattle.tg_model.proofs.Inversions.{literal_type}
+use Rattle.tg_model.proofs.Contexts.{used_have_types}
 use Rattle.tg_model.specs.Formula as formula
 use Rattle.tg_model.specs.Formula.{Formula, Sequent, atom, both, implies, all, some, thyp}
 use Rattle.tg_model.proofs.KnownValues.{sorting, nil, cons, list_of}
 use Rattle.tg_eval.specs.Limited.{limited}
 use Rattle.tg_calculus.specs.Sequent.{Context, ◌│◌⊢◌, equation}
-use Rattle.tg_calculus.specs.Draft.{Need, closed, formed, typed, draft, always}
+use Rattle.tg_calculus.specs.Draft.{Need, IsMet, closed, formed, typed, draft, always}
 use Rattle.tg_calculus.specs.Rule as rule
 use Rattle.tg_calculus.specs.Rule.{Rule}
 use Rattle.tg_calculus.proofs.KnownWords.{a, b, c}
+use Rattle.tg_calculus.proofs.Computed.{no_place}
 
 -- three truth values, and two
 abbrev G : Context
@@ -189,3 +194,19 @@ computed : Gives (rule.compute K (less_than 1 2)) [] (closed K ∷ formed [] (at
     × Refuses (rule.compute K (less_than 1 2)) ((K │ [] ⊢ a) ∷ [])
 unfolding limited
 computed = (refl, refl, refl, refl)
+
+-- needs that aren't met: a parameter, a number as a formula, a variable outside its context, a term at another type
+free_type : (n : ℕ) (T U : Ty) (t : Typing) → numbered K n ≡ Some U → IsTyping sorting K [] (free n) t → type_of t ≡ T → U ≡ T
+free_type n T U (leaf V) e h s = let q : Some U ≡ Some V = sym e ∙ h in let v : U ≡ V = cc q in v ∙ s
+free_type n T U t e h s = absurd h
+
+unmet : (¬ (IsMet sorting (closed (parameter 1 ∷ [])))) × (¬ (IsMet sorting (formed K (atom (literal 1))))) × (¬ (IsMet sorting (formed [] a)))
+    × (¬ (IsMet sorting (typed K (free 1) nat))) × IsMet sorting (typed K (free 1) bool) × IsMet sorting (formed K (both a b))
+unmet = (
+  λ m. m.0,
+  λ m. let q : nat ≡ bool = sym (literal_type sorting K [] 1 m.0 m.1) ∙ m.2 in cc q,
+  λ m. let p = used_have_types sorting [] [] (free 1) bool m 1 refl in no_place p.0 1 p.1,
+  λ m. let q : bool ≡ nat = free_type 1 nat bool m.0 refl m.1 m.2 in cc q,
+  (leaf bool, refl, refl),
+  ((leaf bool, refl, refl), (leaf bool, refl, refl)),
+)
