@@ -65,7 +65,8 @@ open_count (Some vs ∷ xs) = open_count xs
 open_count (None ∷ xs) = suc (open_count xs)
 
 abbrev pub counts_line : List Choice → List Seen
-counts_line xs = name (codes "classes") ∷ numeral (length xs) ∷ name (codes "tests") ∷ numeral (tested_count xs) ∷ name (codes "open") ∷ numeral (open_count xs) ∷ []
+counts_line xs = name (codes "classes") ∷ numeral (length xs) ∷ name (codes "tests") ∷ numeral (tested_count xs)
+    ∷ name (codes "open") ∷ numeral (open_count xs) ∷ []
 
 -- the report on a theory of these classes
 abbrev pub report_lines : Theory → Settings → List Class → List Choice → List (List Seen)

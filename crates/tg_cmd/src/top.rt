@@ -26,20 +26,18 @@ use tg_types::Name;
 /// fault of its tokens is answered, as `Limit(Number)` where it is a number of 2^64 or more, and as
 /// `Refused(Form)` where it is another; else `Limit(Nesting)` where the tokens nest too deep; else
 /// `Refused(Form)` where they are no text of the grammar; else the first fault of the theory's declarations;
-/// else the first limit that is passed in making the classes. At each of these one line is written. Else the
-/// report is written, and the answer is `TestsFailed` exactly where `judge` gives the verdict `failed`, else
-/// `Done`. The whole input is read before anything is written.
+/// else the first limit that is passed in making the classes; else, for `judge`, `Refused(Settings)` where the
+/// outcomes state other settings, or the fault of the first record that has one, as `Refused(Unknown)`,
+/// `Refused(Repeated)` or `Refused(BadAnswer)`. At each of these one line is written. Else the report is
+/// written, and the answer is `TestsFailed` exactly where `judge` gives the verdict `failed`, else `Done`.
+/// The whole input is read before anything is written. `Memory` may come in place of any result before that,
+/// and then neither count of faults rose.
 ///
-/// So `generate` has a report on each theory that is accepted and passes no limit. `judge` has one where the theory is of
-/// one form and its outcomes are of the form's one test (`specs/Form.antt`, `specs/Outcomes.antt`), and answers
-/// `Refused(Early)` for others.
-///
-/// The theorem that `generate` prints is true on every table, and each uniformity, open class and regularity
-/// that it prints is true on every table where the specification is. Where `judge` has answered `Done` or
-/// `TestsFailed`, the theorem that it prints is derivable and true on every table; on every finite table that
-/// has the outcome that is judged passed the printed hypotheses give the specification, which implies each of
-/// them on every table; and an outcome that is judged failed refutes it. (HOL-TestGen's test theorem, after
-/// Brucker and Wolff.)
+/// The theorem that is printed is true on every table, and each uniformity, open class and regularity that is
+/// printed is true on every table where the specification is. Where `judge` has answered `Done` or
+/// `TestsFailed`, the specification holds on every finite table that has the outcomes that are judged passed
+/// and on which these hypotheses hold, and an outcome that is judged failed refutes it. (HOL-TestGen's test
+/// theorem, after Brucker and Wolff.)
 pub fn run<S: Source, K: Sink>(
     alloc: Global,
     words: &[Name],
