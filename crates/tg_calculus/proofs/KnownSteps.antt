@@ -2,7 +2,7 @@
 -- hypotheses is pinned here; truth doesn't depend on it.
 use Rattle.std.proofs.Common.{ℕ, ◌≡◌, true, false, refl, sym, ◌∙◌, List, [], ◌∷◌, None, Some}
 use Rattle.tg_model.specs.Tree as tree
-use Rattle.tg_model.specs.Tree.{Tree, bound, free, literal, truth, con, call, put, op, one, two, trees, plus, less, negation}
+use Rattle.tg_model.specs.Tree.{Tree, bound, free, literal, truth, con, call, put, op, one, two, trees, plus, less, negation, disjunction, equality}
 use Rattle.tg_model.specs.Types.{Ty, nat, bool, parameter, applied, tys}
 use Rattle.tg_model.specs.Theory.{numbered}
 use Rattle.tg_model.specs.TermTyping.{Typing, leaf, type_of, IsTyping}
@@ -188,9 +188,9 @@ deeper = (refl, refl, refl, refl, refl)
 abbrev less_than : ℕ → ℕ → Tree
 less_than m n = op less (two (literal m) (literal n))
 
--- a variable is refused by what is needed: a formula of no context
+-- a program call is refused also where it isn't evaluated, and a variable by what is needed: a formula of no context
 computed : Gives (rule.compute K (less_than 1 2)) [] (closed K ∷ formed [] (atom (less_than 1 2)) ∷ []) (K │ [] ⊢ atom (less_than 1 2))
-    × Refuses (rule.compute K (less_than 2 2)) [] × Refuses (rule.compute K (op less (two (literal 1) (call 5 (one (put (one nil))))))) []
+    × Refuses (rule.compute K (less_than 2 2)) [] × Refuses (rule.compute K (op disjunction (two (truth true) (op equality (two (put (one nil)) nil))))) []
     × Refuses (rule.compute K (less_than 1 2)) ((K │ [] ⊢ a) ∷ [])
 unfolding limited
 computed = (refl, refl, refl, refl)
