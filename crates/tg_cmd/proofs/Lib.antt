@@ -9,6 +9,7 @@ pub mod Outputs
 pub mod Promises
 pub mod RecordLaws
 pub mod SimpleVariables
+pub mod Sources
 pub mod TestLaws
 pub mod TrueTheorems
 pub mod VerdictLaws

@@ -1,6 +1,6 @@
 -- What a run reads and writes.
-use Rattle.std.specs.Prelude.{ℕ, ◌+◌, ◌≡◌, ◌<◌, ◌⊎◌, nat_eq, if◌then◌else◌, List, length, map, take, Option, IfSome}
-use Rattle.std.specs.Io.KnownBytes.{Consumes, IsAtEnd, Appends}
+use Rattle.std.specs.Prelude.{ℕ, ◌+◌, ◌≡◌, ◌<◌, ◌⊎◌, nat_eq, if◌then◌else◌, List, length, map, take, drop, Option, Some, None, IfSome}
+use Rattle.std.specs.Io.KnownBytes.{Appends}
 use Rattle.tg_io.specs.Faults.{Rose}
 use Rattle.tg_model.specs.Theory as model
 use Rattle.tg_types.specs.declared.options.Settings.{Settings}
@@ -88,9 +88,11 @@ abbrev pub IsOutput : Command → Settings → List ℕ → Answer → List ℕ 
 IsOutput Generate s input answer text = OfInput Theory (Generated s) input answer text
 IsOutput Judge s input answer text = OfInput parts.Judge (Judged s) input answer text
 
--- the source was read to its end, or to one byte past the longest input
+-- what the source had left was read, but for what stands behind one byte past the longest input
 abbrev pub IsRead : Option (List ℕ) → Option (List ℕ) → Type 0
-IsRead old new = IsAtEnd new ⊎ ((bytes : List ℕ) × Consumes old new bytes × (length bytes ≡ longest + 1))
+IsRead (Some input) (Some left) = left ≡ drop (longest + 1) input
+IsRead (Some input) None = ⊥
+IsRead None left = Unit {0}
 
 -- the whole of the output was written
 pub record Writes (command : Command) (s : Settings) (answer : Answer) (left old new : Option (List ℕ)) : Type 0 where
