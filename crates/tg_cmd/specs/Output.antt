@@ -1,6 +1,6 @@
 -- What a run reads and writes.
-use Rattle.std.specs.Prelude.{ℕ, ◌+◌, ◌≡◌, ◌<◌, ◌⊎◌, nat_eq, if◌then◌else◌, List, length, map, take, drop, Option, Some, None, IfSome}
-use Rattle.std.specs.Io.KnownBytes.{Appends}
+use Rattle.std.specs.Prelude.{ℕ, ◌+◌, ◌≡◌, ◌<◌, ◌≤◌, ◌⊎◌, nat_eq, if◌then◌else◌, List, length, map, take, drop, Option, Some, None, IfSome}
+use Rattle.std.specs.Io.KnownBytes.{Consumes, Appends}
 use Rattle.tg_io.specs.Faults.{Rose}
 use Rattle.tg_model.specs.Theory as model
 use Rattle.tg_types.specs.declared.options.Settings.{Settings}
@@ -94,6 +94,10 @@ IsRead (Some input) (Some left) = left ≡ drop (longest + 1) input
 IsRead (Some input) None = ⊥
 IsRead None left = Unit {0}
 
+-- no more was read than one byte past the longest input
+abbrev pub IsReadInPart : Option (List ℕ) → Option (List ℕ) → Type 0
+IsReadInPart old new = (bytes : List ℕ) × Consumes old new bytes × (length bytes ≤ longest + 1)
+
 -- the whole of the output was written
 pub record Writes (command : Command) (s : Settings) (answer : Answer) (left old new : Option (List ℕ)) : Type 0 where
   pub text : List ℕ
@@ -117,8 +121,8 @@ HasBytes command s (Refused refusal) left left' old new = IsRead left left' × W
 HasBytes command s (Limit name) left left' old new = IsRead left left' × Writes command s (Limit name) left old new
 HasBytes command s (WriteFault written) left left' old new = IsRead left left' × WritesFront command s written left old new
 HasBytes command s Usage left left' old new = Unit {0}
-HasBytes command s ReadFault left left' old new = Unit {0}
-HasBytes command s Memory left left' old new = Unit {0}
+HasBytes command s ReadFault left left' old new = IsReadInPart left left'
+HasBytes command s Memory left left' old new = IsReadInPart left left'
 
 -- nothing is written at these answers
 abbrev pub IsSilent : Answer → Type 0

@@ -5,7 +5,7 @@ ghost use Rattle.tg_grammar.specs.Seen.{seen, declarations};
 ghost use Rattle.tg_cmd.specs.declared.answer.Refusal.TheVariants as refusals;
 ghost use Rattle.tg_cmd.specs.Answers.{answer_after};
 ghost use Rattle.tg_cmd.specs.Causes.{longest, IsRefusal, IsLimit};
-ghost use Rattle.tg_cmd.specs.Output.{IsOutput, IsRead, IsStop, IsReport, IsJudgement, OfClasses, OfOutcomes, Generated, Judged, IsOutcomeLine};
+ghost use Rattle.tg_cmd.specs.Output.{IsOutput, IsRead, IsReadInPart, IsStop, IsReport, IsJudgement, OfClasses, OfOutcomes, Generated, Judged, IsOutcomeLine};
 ghost use Rattle.tg_cmd.specs.Ends.{IsFaultLine, HasTokenLine, IsTheoryLine, IsPassedLine};
 ghost use Rattle.tg_infer.specs.TextNames.{IsNamed};
 ghost use Rattle.tg_cmd.specs.Data.{choices_by_data};
@@ -62,6 +62,7 @@ pub(crate) fn make_output<S: Source>(
 ) -> Result<Output, Answer>
     ensures made { let r = request.now in IfOk result (λ o. IfSome (S.left source.old) (λ input. IsOutput r.command r.settings input (answer_after o.ending) o.text.items)) }
     ensures read { OnOk result (IsRead (S.left source.old) (S.left source.new)) }
+    ensures part { OnErr result (IsReadInPart (S.left source.old) (S.left source.new)) }
     ensures stop { IfErr result (λ a. IsStop a (S.faults source.old) (S.faults source.new)) }
 {
     match read_all(alloc, source, LONGEST) {
