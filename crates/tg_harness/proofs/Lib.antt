@@ -1,0 +1,4 @@
+pub mod HarnessLaws
+pub mod KnownTexts
+mod Lists
+pub mod OutcomeLaws

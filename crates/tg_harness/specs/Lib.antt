@@ -1,0 +1,2 @@
+pub mod OutcomeTexts
+pub mod HarnessTexts

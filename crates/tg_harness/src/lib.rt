@@ -1,0 +1,10 @@
+//! The shell harness that runs a program on the tests of a theory, and the text of recorded outcomes. `specs/` says both.
+#![tactic(auto)]
+
+mod recording;
+#[cfg(test)]
+mod tests;
+mod writing;
+
+pub use recording::outcomes;
+pub use writing::write;
