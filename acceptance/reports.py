@@ -7,7 +7,7 @@ SORT = (LIST + 'primrec ins :: nat => (nat list) => (nat list) where ins x Nil =
         'ins x (Cons y ys) = if x <= y then Cons x (Cons y ys) else Cons y (ins x ys); '
         'primrec isort :: nat list => nat list where isort Nil = Nil; isort (Cons x xs) = ins x (isort xs); '
         'program put :: nat list => nat list; spec xs . put xs = isort xs; ')
-GRID = ('primrec row :: nat => nat where row 0 = 0; row (Suc n) = row n; '
+GRID = ('primrec line :: nat => nat where line 0 = 0; line (Suc n) = line n; '
         'primrec grid :: nat => nat => nat where grid 0 m = 0; grid (Suc n) m = row m + grid n m; ')
 PUT = 'program put :: nat => nat; '
 DUP = 'definition dup :: nat => nat where dup x = x + x; ' + PUT

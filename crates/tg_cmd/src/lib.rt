@@ -8,6 +8,8 @@ mod answer;
 mod command;
 mod data;
 mod judging;
+#[cfg(test)]
+mod judging_tests;
 mod options;
 mod output;
 #[cfg(test)]
