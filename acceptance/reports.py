@@ -8,7 +8,7 @@ SORT = (LIST + 'primrec ins :: nat => (nat list) => (nat list) where ins x Nil =
         'primrec isort :: nat list => nat list where isort Nil = Nil; isort (Cons x xs) = ins x (isort xs); '
         'program put :: nat list => nat list; spec xs . put xs = isort xs; ')
 GRID = ('primrec line :: nat => nat where line 0 = 0; line (Suc n) = line n; '
-        'primrec grid :: nat => nat => nat where grid 0 m = 0; grid (Suc n) m = row m + grid n m; ')
+        'primrec grid :: nat => nat => nat where grid 0 m = 0; grid (Suc n) m = line m + grid n m; ')
 PUT = 'program put :: nat => nat; '
 DUP = 'definition dup :: nat => nat where dup x = x + x; ' + PUT
 
