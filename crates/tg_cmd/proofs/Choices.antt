@@ -1,6 +1,6 @@
 -- Words are read as choices, one after another.
 use Rattle.std.proofs.Common.{◌≡◌, ◌≢◌, ◌≤◌, ◌<◌, ◌^◌, inl, inr, ℕ, List, [], ◌∷◌, All, Option, Some, None, MatchOption, refl, sym, ◌∙◌, ap, subst, get_or, drop, length, arith}
-use Rattle.std.specs.Prelude.{codes, decimal}
+use Rattle.std.specs.Prelude.{decimal}
 use Rattle.std.specs.Str.Parse.{digits_value}
 use Rattle.std.proofs.lemmas.Fmt.{decimal_is_IsNumeral}
 use Rattle.std.proofs.lemmas.List.Elements.{All-head, All-tail, All-cons}
@@ -8,9 +8,7 @@ use Rattle.tg_cmd.specs.declared.options.Setting.{Setting}
 use Rattle.tg_cmd.specs.declared.options.Setting.TheVariants.{Depth, Bound, Seed, Tries, Width}
 use Rattle.tg_cmd.specs.declared.options.Chosen.{Chosen}
 use Rattle.tg_types.specs.declared.options.Settings.{Settings}
-use Rattle.tg_cmd.specs.declared.command.Command.{Command}
-use Rattle.tg_cmd.specs.declared.command.Command.TheVariants.{Generate, Judge}
-use Rattle.tg_cmd.specs.Options.{command_word, option_word, Choice, IsChoice, spelled, IsAmong, nothing_chosen, choice_of, chosen, all_chosen, settings_in, ReadsWords, IsCommand, AskFor, IsFree, Spell, IsSpelled}
+use Rattle.tg_cmd.specs.Options.{option_word, Choice, IsChoice, spelled, IsAmong, nothing_chosen, choice_of, chosen, all_chosen, settings_in, ReadsOptions, IsFree, Spell, IsSpelled}
 
 decimal_one : (m n : ℕ) → m < 2 ^ 64 → n < 2 ^ 64 → decimal m ≡ decimal n → m ≡ n
 decimal_one m n p q e = sym (decimal_is_IsNumeral m p).1 ∙ (ap (digits_value 10) e ∙ (decimal_is_IsNumeral n q).1)
@@ -254,35 +252,17 @@ same_choices (c ∷ cs) (d ∷ ds) h k e =
     let others = same_choices cs ds (All-tail IsChoice c cs h) (All-tail IsChoice d ds k) (other_words _ _ _ _ behind) in
     λ i. first i ∷ others i
 
-same_command : (c d : Command) → command_word c ≡ command_word d → c ≡ d
-same_command Generate Generate e = refl
-same_command Generate Judge e = let wrong : codes "generate" ≡ codes "judge" = e in cc
-same_command Judge Generate e = let wrong : codes "judge" ≡ codes "generate" = e in cc
-same_command Judge Judge e = refl
+-- options make one list of settings
+pub one_settings : (words : List (List ℕ)) (s t : Settings) → ReadsOptions words s → ReadsOptions words t → s ≡ t
+one_settings words s t (cs, allowed, once, e, f) (ds, allowed', once', e', f') =
+    let choices = same_choices cs ds allowed allowed' (sym e ∙ e') in
+    f ∙ ap (λ (xs : List Choice). settings_in (all_chosen nothing_chosen xs)) choices ∙ sym f'
 
-one_request : (words : List (List ℕ)) (c d : Command) (s t : Settings) → ReadsWords words c s → ReadsWords words d t → (c ≡ d) × (s ≡ t)
-one_request words c d s t (cs, allowed, once, e, f) (ds, allowed', once', e', f') =
-    let same : command_word c ∷ spelled cs ≡ command_word d ∷ spelled ds = sym e ∙ e' in
-    let choices = same_choices cs ds allowed allowed' (other_words _ _ _ _ same) in
-    (same_command c d (first_word _ _ _ _ same), f ∙ ap (λ (xs : List Choice). settings_in (all_chosen nothing_chosen xs)) choices ∙ sym f')
+pub makes_settings : (words : List (List ℕ)) (given : Chosen) (s : Settings) → Chosen_by words nothing_chosen given → s ≡ settings_in given → ReadsOptions words s
+makes_settings words given s (cs, spell, f) g = (cs, spell.allowed, spell.once, spell.spelled, g ∙ ap settings_in f)
 
-pub asks : (words rest : List (List ℕ)) (word : List ℕ) (command : Command) (given : Chosen) (s : Settings) → words ≡ word ∷ rest → word ≡ command_word command
-    → Chosen_by rest nothing_chosen given → s ≡ settings_in given → AskFor words command s
-asks words rest word command given s cut e (cs, spell, f) g =
-    let reads : ReadsWords words command s = (cs, spell.allowed, spell.once, cut ∙ (λ i. e i ∷ spell.spelled i), g ∙ ap settings_in f) in
-    record { asked = (command, s, reads); reads = reads; only = λ c t h. one_request words command c s t reads h }
-
-pub asks_nothing : (words : List (List ℕ)) → words ≡ [] → IsCommand words → ⊥
-asks_nothing words e (command, s, (cs, allowed, once, f, g)) = let wrong : [] ≡ command_word command ∷ spelled cs = sym e ∙ f in absurd cc
-
-pub no_command : (words rest : List (List ℕ)) (word : List ℕ) → words ≡ word ∷ rest → ((c : Command) → word ≢ command_word c) → IsCommand words → ⊥
-no_command words rest word cut none (command, s, (cs, allowed, once, f, g)) =
-    let same : word ∷ rest ≡ command_word command ∷ spelled cs = sym cut ∙ f in none command (first_word _ _ _ _ same)
-
-pub no_options : (words rest : List (List ℕ)) (word : List ℕ) → words ≡ word ∷ rest → ((cs : List Choice) → Spell rest nothing_chosen cs → ⊥) → IsCommand words → ⊥
-no_options words rest word cut none (command, s, (cs, allowed, once, f, g)) =
-    let same : word ∷ rest ≡ command_word command ∷ spelled cs = sym cut ∙ f in
-    none cs (record { allowed = allowed; once = once; free = free cs; spelled = other_words _ _ _ _ same })
+pub no_settings : (words : List (List ℕ)) → ((cs : List Choice) → Spell words nothing_chosen cs → ⊥) → (s : Settings) → ReadsOptions words s → ⊥
+no_settings words none s (cs, allowed, once, f, g) = none cs (record { allowed = allowed; once = once; free = free cs; spelled = f })
   where
     free : (cs : List Choice) → All (IsFree nothing_chosen) cs
     free [] = All-nothing (IsFree nothing_chosen)

@@ -37,7 +37,8 @@ use Rattle.tg_types.specs.declared.verdicts.Verdict.{Verdict}
 use Rattle.tg_types.specs.declared.verdicts.Verdict.TheVariants.{Passed, Failed, Undecided, Raised, Missing, NoDatum}
 use Rattle.tg_verdict.specs.Verdicts.{verdict_by, verdict_at}
 use Rattle.tg_cmd.specs.Data.{choices_by_data}
-use Rattle.tg_cmd.specs.Judging.{Record, recorded, verdict_on_answer, verdict_of, verdicts_from, tested_if_passed, choices_by_verdicts, HasAnswer, HasOutcome}
+use Rattle.tg_cmd.specs.Judging.{recorded, verdict_on_answer, verdict_of, verdicts_from, tested_if_passed, choices_by_verdicts, HasAnswer, HasOutcome}
+use Rattle.tg_harness.specs.Tests.{Record}
 use Rattle.tg_cmd.specs.Promises.{HasPassed, IsRefuted, EachIsRefuted, IsHeadline}
 use Rattle.tg_cmd.proofs.SimpleVariables.{IsFilledClass, filled_classes}
 use Rattle.tg_cmd.proofs.TrueTheorems.{choices_chosen}

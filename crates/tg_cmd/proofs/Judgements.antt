@@ -14,9 +14,10 @@ use Rattle.tg_types.specs.declared.verdicts.Verdict.{Verdict}
 use Rattle.tg_verdict.specs.Places.{AreOnce, test_number}
 use Rattle.tg_verdict.specs.Verdicts.{AreVerdicts}
 use Rattle.tg_cmd.specs.Data.{choices_by_data}
-use Rattle.tg_cmd.specs.Judging.{record_of, tests_from, verdicts_from}
+use Rattle.tg_cmd.specs.Judging.{tests_from, verdicts_from}
+use Rattle.tg_harness.specs.Tests.{record_of, test}
 use Rattle.tg_cmd.specs.Output.{tests_of}
-use Rattle.tg_cmd.specs.Tests.{test, tests_at}
+use Rattle.tg_cmd.specs.Tests.{tests_at}
 use Rattle.tg_cmd.proofs.DataLaws.{as_many}
 use Rattle.tg_cmd.proofs.Headline.{data_lengths}
 use Rattle.tg_cmd.proofs.SimpleVariables.{linear_classes}

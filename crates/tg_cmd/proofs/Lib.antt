@@ -8,8 +8,10 @@ pub mod OneOutput
 pub mod Outputs
 pub mod Promises
 pub mod RecordLaws
+pub mod RequestLaws
 pub mod SimpleVariables
 pub mod Sources
+pub mod StandIns
 pub mod TestLaws
 pub mod TrueTheorems
 pub mod VerdictLaws

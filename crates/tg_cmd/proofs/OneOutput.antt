@@ -1,6 +1,7 @@
 -- An input has one output.
 use Rattle.std.proofs.Common.{ℕ, ◌≡◌, inl, inr, true, false, List, [], map, Err, refl, sym, ◌∙◌, ap, subst, arith}
 use Rattle.tg_accept.specs.Declared.{nothing}
+use Rattle.tg_accept.proofs.AcceptedTheories.{theory_is_accepted}
 use Rattle.tg_accept.proofs.OneAnswer.{one_refusal, one_theory, not_both as never_both}
 use Rattle.tg_derive.specs.Work as work
 use Rattle.tg_derive.proofs.OneAnswer.{one_answer}
@@ -10,6 +11,7 @@ use Rattle.tg_grammar.specs.Parts.{Part, Value, Theory}
 use Rattle.tg_grammar.specs.Parts as parts
 use Rattle.tg_grammar.specs.Seen.{seen, declarations}
 use Rattle.tg_grammar.proofs.Readings.{one_value, one_fault, not_both}
+use Rattle.tg_harness.specs.OutcomeTexts.{outcomes_text}
 use Rattle.tg_hyps.specs.Hypotheses.{Class}
 use Rattle.tg_infer.specs.View.{raw_declaration}
 use Rattle.tg_lex.specs.declared.token.Token.{Token}
@@ -17,6 +19,7 @@ use Rattle.tg_lex.specs.Grammar.{Reads}
 use Rattle.tg_lex.specs.Answers.{TellsFault}
 use Rattle.tg_lex.specs.declared.token.LexErr.TheVariants as lex
 use Rattle.tg_lex.proofs.Unique.{one_reading, one_first_fault, no_wrong_byte, no_open_comment, no_large_number}
+use Rattle.tg_model.specs.Accepted.{IsAccepted}
 use Rattle.tg_model.specs.Theory as model
 use Rattle.tg_types.specs.declared.options.Settings.{Settings}
 use Rattle.tg_cmd.specs.declared.answer.Answer.{Answer}
@@ -24,14 +27,16 @@ use Rattle.tg_cmd.specs.declared.answer.Answer.TheVariants.{Refused, Limit}
 use Rattle.tg_cmd.specs.declared.answer.Refusal.{Refusal}
 use Rattle.tg_cmd.specs.declared.answer.Refusal.TheVariants as refusals
 use Rattle.tg_cmd.specs.declared.answer.LimitName.{LimitName}
-use Rattle.tg_cmd.specs.declared.command.Command.{Command}
-use Rattle.tg_cmd.specs.declared.command.Command.TheVariants.{Generate, Judge}
 use Rattle.tg_cmd.specs.Answers.{refusal_line, limit_line, answer_for, line_for}
 use Rattle.tg_cmd.specs.Causes.{IsRefusal, IsLimit, OfRaw, refused, accepted, OfTokens, too_nested, no_text, a_text, OfBytes, no_token, too_large, lexed, OfInput, too_long, whole}
 use Rattle.tg_cmd.specs.Data.{choices_by_data}
 use Rattle.tg_cmd.specs.Judging.{verdicts_from}
 use Rattle.tg_cmd.specs.Lines.{judged_report_on}
-use Rattle.tg_cmd.specs.Output.{limit_of, OfClasses, limited, classes, Generated, ending_on, tests_of, OfOutcomes, unread, read, Judged, IsOutput}
+use Rattle.tg_cmd.specs.Requests.{Request, generate, harness, judge, simulate}
+use Rattle.tg_cmd.specs.StandIn.{simulated}
+use Rattle.tg_cmd.specs.Tests.{tests_by_data}
+use Rattle.tg_cmd.specs.Output.{limit_of, OfClasses, limited, classes, OfTheory, IsReport, IsHarness, OfStandIn, none, stands_in, ending_on, tests_of, OfOutcomes, unread, read, Judged, IsOutput}
+use Rattle.tg_cmd.proofs.StandIns.{one_stand_in}
 use Rattle.tg_cmd.proofs.RecordLaws.{not_read, one_refusal as one_outcome_refusal, one_reading as one_recording}
 use Rattle.tg_cmd.specs.Reading.{HasTokenFault, IsTooLarge}
 
@@ -47,7 +52,7 @@ limits_agree l m e a b t u h k = (h.answers ∙ ap Limit e ∙ sym k.answers, h.
 
 -- ---- a theory as it is read
 
-of_raw : (Of : model.Theory → Answer → List ℕ → Type 0) → ((th : model.Theory) → Only (Of th)) → (raw : RawTheory) → Only (OfRaw Of raw)
+of_raw : (Of : model.Theory → Answer → List ℕ → Type 0) → ((th : model.Theory) → IsAccepted th → Only (Of th)) → (raw : RawTheory) → Only (OfRaw Of raw)
 of_raw Of only raw a b t u (refused p k h f) (refused q l i g) =
     let same = one_refusal nothing 1 (map raw_declaration raw.decls) p q k l h i in (
       f.answers ∙ (λ j. answer_for (same.1 j) (same.0 j)) ∙ sym g.answers,
@@ -57,7 +62,7 @@ of_raw Of only raw a b t u (refused p k h f) (accepted th i g) = absurd (never_b
 of_raw Of only raw a b t u (accepted th h f) (refused q l i g) = absurd (never_both raw.name nothing 1 (map raw_declaration raw.decls) th q l h i)
 of_raw Of only raw a b t u (accepted th h f) (accepted other i g) =
     let same = one_theory raw.name nothing (map raw_declaration raw.decls) th other h i in
-    only other a b t u (subst (λ x. Of x a t) same f) g
+    only other (theory_is_accepted raw.name (map raw_declaration raw.decls) other i) a b t u (subst (λ x. Of x a t) same f) g
 
 -- ---- classes
 
@@ -151,9 +156,22 @@ module _ (n : Part) (Of : Value n → Answer → List ℕ → Type 0) (only : (v
 
 -- ---- the commands
 
-generated : (s : Settings) (raw : RawTheory) → Only (Generated s raw)
-generated s raw =
-    of_raw _ (λ th. of_classes _ (λ cs a b t u h k. (h.answers ∙ sym k.answers, h.says ∙ sym k.says)) s.depth th) raw
+of_theory : (Of : Settings → model.Theory → List Class → Answer → List ℕ → Type 0)
+    → ((s : Settings) (th : model.Theory) → IsAccepted th → (cs : List Class) → Only (Of s th cs)) → (s : Settings) (raw : RawTheory) → Only (OfTheory Of s raw)
+of_theory Of only s raw = of_raw _ (λ th ok. of_classes _ (only s th ok) s.depth th) raw
+
+one_report : (s : Settings) (th : model.Theory) → IsAccepted th → (cs : List Class) → Only (IsReport s th cs)
+one_report s th ok cs a b t u h k = (h.answers ∙ sym k.answers, h.says ∙ sym k.says)
+
+one_harness : (s : Settings) (th : model.Theory) → IsAccepted th → (cs : List Class) → Only (IsHarness s th cs)
+one_harness s th ok cs a b t u h k = (h.answers ∙ sym k.answers, h.says ∙ sym k.says)
+
+one_simulation : (name : List ℕ) (s : Settings) (th : model.Theory) → IsAccepted th → (cs : List Class) → Only (OfStandIn name s th cs)
+one_simulation name s th ok cs a b t u (none h f) (none i g) = refusals_agree _ _ refl a b t u f g
+one_simulation name s th ok cs a b t u (none h f) (stands_in n i g) = absurd (h n i)
+one_simulation name s th ok cs a b t u (stands_in n h f) (none i g) = absurd (i n h)
+one_simulation name s th ok cs a b t u (stands_in n h f) (stands_in m i g) =
+    (f.answers ∙ sym g.answers, f.says ∙ ap (λ k. outcomes_text th s (simulated th k (tests_by_data th s cs))) (one_stand_in th ok name n m h i) ∙ sym g.says)
 
 of_outcomes : (s : Settings) (raw : RawOutcomes) (th : model.Theory) (cs : List Class) → Only (OfOutcomes s raw th cs)
 of_outcomes s raw th cs a b t u (unread e h f) (unread d i g) = one_outcome_refusal th s (tests_of s th cs) raw e d a b t u h f i g
@@ -166,8 +184,10 @@ of_outcomes s raw th cs a b t u (read os h f) (read ps i g) =
     )
 
 judged : (s : Settings) (v : RawTheory × RawOutcomes) → Only (Judged s v)
-judged s v = of_raw _ (λ th. of_classes _ (of_outcomes s v.1 th) s.depth th) v.0
+judged s v = of_theory (λ s th. OfOutcomes s v.1 th) (λ s th ok. of_outcomes s v.1 th) s v.0
 
-pub one_output : (c : Command) (s : Settings) (input : List ℕ) → Only (IsOutput c s input)
-one_output Generate s input = of_input Theory (Generated s) (generated s) input
-one_output Judge s input = of_input parts.Judge (Judged s) (judged s) input
+pub one_output : (r : Request) (input : List ℕ) → Only (IsOutput r input)
+one_output (generate s) input = of_input Theory (OfTheory IsReport s) (of_theory IsReport one_report s) input
+one_output (harness s) input = of_input Theory (OfTheory IsHarness s) (of_theory IsHarness one_harness s) input
+one_output (judge s) input = of_input parts.Judge (Judged s) (judged s) input
+one_output (simulate name s) input = of_input Theory (OfTheory (OfStandIn name) s) (of_theory (OfStandIn name) (one_simulation name) s) input

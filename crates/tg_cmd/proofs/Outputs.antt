@@ -6,7 +6,6 @@ use Rattle.tg_derive.specs.Answers.{Stops}
 use Rattle.tg_derive.specs.Classes.{Derived}
 use Rattle.tg_derive.specs.Work as work
 use Rattle.tg_grammar.specs.declared.declarations.RawTheory.{RawTheory}
-use Rattle.tg_grammar.specs.declared.outcomes.RawOutcomes.{RawOutcomes}
 use Rattle.tg_grammar.specs.Parts.{Part, Value, Theory}
 use Rattle.tg_grammar.specs.Parts as parts
 use Rattle.tg_hyps.specs.Hypotheses.{Class}
@@ -20,14 +19,12 @@ use Rattle.tg_model.specs.Theory as model
 use Rattle.tg_syntax.specs.declared.parsing.FormErr.{FormErr}
 use Rattle.tg_syntax.specs.declared.parsing.FormErr.TheVariants as errors
 use Rattle.tg_syntax.specs.Parsing.{Parses}
-use Rattle.tg_types.specs.declared.options.Settings.{Settings}
 use Rattle.tg_cmd.specs.declared.answer.Answer.{Answer}
 use Rattle.tg_cmd.specs.declared.answer.LimitName.TheVariants.{Input}
-use Rattle.tg_cmd.specs.declared.command.Command.{Command}
-use Rattle.tg_cmd.specs.declared.command.Command.TheVariants.{Generate, Judge}
 use Rattle.tg_cmd.specs.Causes.{longest, IsLimit, OfRaw, refused, too_nested, no_text, a_text, no_token, too_large, lexed, OfInput, too_long, whole}
 use Rattle.tg_cmd.specs.Ends.{IsFaultLine, HasTokenLine, IsTheoryLine, IsPassedLine}
-use Rattle.tg_cmd.specs.Output.{OfClasses, limited, Generated, Judged, IsOutput}
+use Rattle.tg_cmd.specs.Output.{OfClasses, limited, OfTheory, IsReport, IsHarness, OfStandIn, Judged, IsOutput}
+use Rattle.tg_cmd.specs.Requests.{Request, generate, harness, judge, simulate}
 
 -- ---- of a theory
 
@@ -53,28 +50,18 @@ passed_by Of k th passed.Memory answer text h line = absurd line
 
 -- ---- of tokens
 
-module _ (bytes : List ℕ) (tokens : List Token) (reads : Reads bytes tokens) (short : length bytes ≤ longest) where
-  pub theory_output : (s : Settings) (raw : RawTheory) (answer : Answer) (text : List ℕ) → Parses Theory bytes tokens (Ok raw)
-      → Generated s raw answer text → IsOutput Generate s bytes answer text
-  theory_output s raw answer text h g = whole short (lexed tokens reads (a_text raw h.0 h.1 g))
+module _ (n : Part) (Of : Value n → Answer → List ℕ → Type 0) (bytes : List ℕ) (tokens : List Token) (reads : Reads bytes tokens)
+    (short : length bytes ≤ longest) where
+  -- a text
+  pub text_output : (v : Value n) (answer : Answer) (text : List ℕ) → Parses n bytes tokens (Ok v) → Of v answer text → OfInput n Of bytes answer text
+  text_output v answer text h g = whole short (lexed tokens reads (a_text v h.0 h.1 g))
 
-  pub judge_output : (s : Settings) (raw : RawTheory) (outcomes : RawOutcomes) (answer : Answer) (text : List ℕ)
-      → Parses parts.Judge bytes tokens (Ok (raw, outcomes)) → Judged s (raw, outcomes) answer text → IsOutput Judge s bytes answer text
-  judge_output s raw outcomes answer text h g = whole short (lexed tokens reads (a_text (raw, outcomes) h.0 h.1 g))
-
-  fault_of : (n : Part) (Of : Value n → Answer → List ℕ → Type 0) (error : FormErr) (answer : Answer) (text : List ℕ) → Parses n bytes tokens (Err error)
-      → IsFaultLine error answer text → OfInput n Of bytes answer text
-  fault_of n Of errors.Nested answer text h line = whole short (lexed tokens reads (too_nested h line))
-  fault_of n Of (errors.Form place) answer text h line = whole short (lexed tokens reads (no_text place h.0 h.1 line))
-  fault_of n Of errors.Memory answer text h line = absurd line
-
-  pub theory_fault : (s : Settings) (error : FormErr) (answer : Answer) (text : List ℕ) → Parses Theory bytes tokens (Err error)
-      → IsFaultLine error answer text → IsOutput Generate s bytes answer text
-  theory_fault s error answer text h line = fault_of Theory (Generated s) error answer text h line
-
-  pub judge_fault : (s : Settings) (error : FormErr) (answer : Answer) (text : List ℕ) → Parses parts.Judge bytes tokens (Err error)
-      → IsFaultLine error answer text → IsOutput Judge s bytes answer text
-  judge_fault s error answer text h line = fault_of parts.Judge (Judged s) error answer text h line
+  -- no text
+  pub fault_output : (error : FormErr) (answer : Answer) (text : List ℕ) → Parses n bytes tokens (Err error) → IsFaultLine error answer text
+      → OfInput n Of bytes answer text
+  fault_output errors.Nested answer text h line = whole short (lexed tokens reads (too_nested h line))
+  fault_output (errors.Form place) answer text h line = whole short (lexed tokens reads (no_text place h.0 h.1 line))
+  fault_output errors.Memory answer text h line = absurd line
 
 -- of bytes that have no tokens
 token_of : (n : Part) (Of : Value n → Answer → List ℕ → Type 0) (bytes : List ℕ) (answer : Answer) (text : List ℕ) → length bytes ≤ longest
@@ -82,16 +69,22 @@ token_of : (n : Part) (Of : Value n → Answer → List ℕ → Type 0) (bytes :
 token_of n Of bytes answer text short (inl (place, fault, line)) = whole short (no_token place fault line)
 token_of n Of bytes answer text short (inr (large, line)) = whole short (too_large large line)
 
-pub token_output : (bytes : List ℕ) (command : Command) (s : Settings) (answer : Answer) (text : List ℕ) → length bytes ≤ longest → HasTokenLine bytes answer text
-    → IsOutput command s bytes answer text
-token_output bytes Generate s answer text short line = token_of Theory (Generated s) bytes answer text short line
-token_output bytes Judge s answer text short line = token_of parts.Judge (Judged s) bytes answer text short line
+-- what holds of each part of the grammar and of each that comes of it holds of an output
+by_request : (r : Request) (bytes : List ℕ) (answer : Answer) (text : List ℕ)
+    → ((n : Part) (Of : Value n → Answer → List ℕ → Type 0) → OfInput n Of bytes answer text) → IsOutput r bytes answer text
+by_request (generate s) bytes answer text h = h Theory (OfTheory IsReport s)
+by_request (harness s) bytes answer text h = h Theory (OfTheory IsHarness s)
+by_request (judge s) bytes answer text h = h parts.Judge (Judged s)
+by_request (simulate name s) bytes answer text h = h Theory (OfTheory (OfStandIn name) s)
+
+pub token_output : (bytes : List ℕ) (r : Request) (answer : Answer) (text : List ℕ) → length bytes ≤ longest → HasTokenLine bytes answer text
+    → IsOutput r bytes answer text
+token_output bytes r answer text short line = by_request r bytes answer text (λ n Of. token_of n Of bytes answer text short line)
 
 -- of too many bytes
-pub long_output : (bytes : List ℕ) (command : Command) (s : Settings) (answer : Answer) (text : List ℕ) → longest < length bytes → IsLimit Input answer text
-    → IsOutput command s bytes answer text
-long_output bytes Generate s answer text long line = too_long long line
-long_output bytes Judge s answer text long line = too_long long line
+pub long_output : (bytes : List ℕ) (r : Request) (answer : Answer) (text : List ℕ) → longest < length bytes → IsLimit Input answer text
+    → IsOutput r bytes answer text
+long_output bytes r answer text long line = by_request r bytes answer text (λ n Of. too_long long line)
 
 -- ---- in the calls
 

@@ -9,15 +9,15 @@ use Rattle.tg_infer.specs.View.{raw_declaration}
 use Rattle.tg_types.specs.declared.options.Settings.{Settings}
 use Rattle.tg_cmd.specs.declared.answer.Answer.{Answer}
 use Rattle.tg_cmd.specs.declared.answer.Answer.TheVariants.{Done}
-use Rattle.tg_cmd.specs.declared.command.Command.TheVariants.{Generate, Judge}
+use Rattle.tg_cmd.specs.Requests.{generate, judge}
 use Rattle.tg_accept.specs.Checks as checks
 use Rattle.tg_accept.specs.Checks.{Kind}
 use Rattle.tg_cmd.specs.Answers.{answer_for}
 use Rattle.tg_cmd.specs.Causes.{refused, accepted, too_nested, no_text, a_text, no_token, too_large, lexed, too_long, whole}
-use Rattle.tg_cmd.specs.Output.{limited, classes, Generated, IsOutcomeLine, unread, read, Judged, IsOutput, IsResult, IsWritten}
+use Rattle.tg_cmd.specs.Output.{limited, classes, OfTheory, IsReport, IsOutcomeLine, unread, read, Judged, IsOutput, IsResult, IsWritten}
 use Rattle.tg_cmd.specs.Promises.{PrintsTheorem, PrintsHeadline}
 use Rattle.tg_cmd.specs.Reading.{IsTextOf}
-use Rattle.tg_cmd.specs.Judging.{record_of}
+use Rattle.tg_harness.specs.Tests.{record_of}
 use Rattle.tg_verdict.specs.declared.errors.OutcomeErr.{OutcomeErr}
 use Rattle.tg_verdict.specs.declared.errors.OutcomeErr.TheVariants as errors
 use Rattle.tg_cmd.proofs.Headline.{headline}
@@ -39,7 +39,7 @@ moved : (a b : Answer) → a ≡ b → IsResult a → IsResult b
 moved a b e h = subst IsResult e h
 
 module _ (s : Settings) (input text : List ℕ) where
-  of_raw : (raw : RawTheory) → IsTextOf parts.Theory input raw → Generated s raw Done text → PrintsTheorem s input text
+  of_raw : (raw : RawTheory) → IsTextOf parts.Theory input raw → OfTheory IsReport s raw Done text → PrintsTheorem s input text
   of_raw raw reads (refused place k h line) = absurd (no_result k place (moved _ _ line.answers tt))
   of_raw raw reads (accepted th h (limited l i line)) = absurd (moved _ _ line.answers tt)
   of_raw raw reads (accepted th h (classes cs i line)) = record {
@@ -53,7 +53,7 @@ module _ (s : Settings) (input text : List ℕ) where
     true_theorem = true_theorem th (theory_is_accepted raw.name (map raw_declaration raw.decls) th h) s s.depth cs i;
   }
 
-  pub prints_theorem : IsOutput Generate s input Done text → PrintsTheorem s input text
+  pub prints_theorem : IsOutput (generate s) input Done text → PrintsTheorem s input text
   prints_theorem (too_long h line) = absurd (moved _ _ line.answers tt)
   prints_theorem (whole short (no_token place h line)) = absurd (moved _ _ line.answers tt)
   prints_theorem (whole short (too_large h line)) = absurd (moved _ _ line.answers tt)
@@ -85,7 +85,7 @@ module _ (s : Settings) (input text : List ℕ) where
     headline = headline th (theory_is_accepted v.0.name (map raw_declaration v.0.decls) th h) s.depth cs i s (map record_of os);
   }
 
-  pub prints_headline : (answer : Answer) → IsResult answer → IsOutput Judge s input answer text → PrintsHeadline s input text
+  pub prints_headline : (answer : Answer) → IsResult answer → IsOutput (judge s) input answer text → PrintsHeadline s input text
   prints_headline answer r (too_long h line) = absurd (moved _ _ line.answers r)
   prints_headline answer r (whole short (no_token place h line)) = absurd (moved _ _ line.answers r)
   prints_headline answer r (whole short (too_large h line)) = absurd (moved _ _ line.answers r)
@@ -99,12 +99,12 @@ if_some P Q f None h = tt
 if_some P Q f (Some input) h = f input h
 
 -- of what was written
-pub theorem_written : (s : Settings) (text : List ℕ) (left old new : Option (List ℕ)) → IfSome left (λ input. IsOutput Generate s input Done text)
+pub theorem_written : (s : Settings) (text : List ℕ) (left old new : Option (List ℕ)) → IfSome left (λ input. IsOutput (generate s) input Done text)
     → Appends old new text → IsWritten (PrintsTheorem s) left old new
 theorem_written s text left old new h appended =
-    (text, if_some (λ input. IsOutput Generate s input Done text) (λ input. PrintsTheorem s input text) (λ input. prints_theorem s input text) left h, appended)
+    (text, if_some (λ input. IsOutput (generate s) input Done text) (λ input. PrintsTheorem s input text) (λ input. prints_theorem s input text) left h, appended)
 
 pub headline_written : (s : Settings) (answer : Answer) (text : List ℕ) (left old new : Option (List ℕ)) → IsResult answer
-    → IfSome left (λ input. IsOutput Judge s input answer text) → Appends old new text → IsWritten (PrintsHeadline s) left old new
+    → IfSome left (λ input. IsOutput (judge s) input answer text) → Appends old new text → IsWritten (PrintsHeadline s) left old new
 headline_written s answer text left old new r h appended =
-    (text, if_some (λ input. IsOutput Judge s input answer text) (λ input. PrintsHeadline s input text) (λ input. prints_headline s input text answer r) left h, appended)
+    (text, if_some (λ input. IsOutput (judge s) input answer text) (λ input. PrintsHeadline s input text) (λ input. prints_headline s input text answer r) left h, appended)

@@ -18,7 +18,7 @@ use Rattle.tg_cmd.specs.declared.answer.Answer.{Answer}
 use Rattle.tg_cmd.specs.declared.answer.Refusal.{Refusal}
 use Rattle.tg_cmd.specs.declared.answer.Refusal.TheVariants as refusals
 use Rattle.tg_cmd.specs.Causes.{IsRefusal}
-use Rattle.tg_cmd.specs.Judging.{record_of}
+use Rattle.tg_harness.specs.Tests.{record_of}
 use Rattle.tg_cmd.specs.Output.{IsOutcomeLine}
 
 clash : (b : Bool) → b ≡ true → b ≡ false → ⊥

@@ -8,7 +8,8 @@ use Rattle.tg_term.specs.declared.classes.Class as code_class
 use Rattle.tg_term.specs.declared.classes.Test as code_test
 use Rattle.tg_types.specs.declared.verdicts.Verdict.{Verdict}
 use Rattle.tg_cmd.specs.Judging.{tested_if_passed, choices_by_verdicts}
-use Rattle.tg_cmd.specs.Tests.{Test, test, test_at, tests_at}
+use Rattle.tg_cmd.specs.Tests.{test_at, tests_at}
+use Rattle.tg_harness.specs.Tests.{Test, test}
 
 next_from : (n : ℕ) (cs : List code_class.Class) (xs : List code_choice.Choice) (i : ℕ) (c : code_class.Class) (x : code_choice.Choice)
     → slice_get cs i ≡ Some c → slice_get xs i ≡ Some x

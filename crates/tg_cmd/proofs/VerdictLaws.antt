@@ -15,8 +15,9 @@ use Rattle.tg_term.specs.declared.classes.Test as code_test
 use Rattle.tg_types.specs.declared.verdicts.Verdict.{Verdict}
 use Rattle.tg_verdict.specs.Places.{is_among, AreOnce, test_number, test_of, outcome_of}
 use Rattle.tg_verdict.specs.Verdicts.{IsVerdict, IsAnswered, AreVerdicts, verdict_at, verdict_matched}
-use Rattle.tg_cmd.specs.Judging.{record_of, recorded, tests_from, verdict_of, verdicts_from}
-use Rattle.tg_cmd.specs.Tests.{Test, test, tests_at}
+use Rattle.tg_cmd.specs.Judging.{recorded, tests_from, verdict_of, verdicts_from}
+use Rattle.tg_harness.specs.Tests.{Test, record_of, test}
+use Rattle.tg_cmd.specs.Tests.{tests_at}
 use Rattle.tg_cmd.proofs.SimpleVariables.{IsLinearClass}
 
 same : (m n : ℕ) → nat_eq m n ≡ true → m ≡ n

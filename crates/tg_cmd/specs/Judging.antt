@@ -7,8 +7,7 @@ use Rattle.tg_model.specs.Filling.{fill}
 use Rattle.tg_model.specs.Table.{Table, Lists}
 use Rattle.tg_model.specs.Theory.{Theory}
 use Rattle.tg_model.specs.Value.{Value}
-use Rattle.tg_term.specs.Classes.{answer_of}
-use Rattle.tg_term.specs.declared.classes.Outcome as code
+use Rattle.tg_harness.specs.Tests.{Record}
 use Rattle.tg_types.specs.declared.verdicts.Verdict.{Verdict}
 use Rattle.tg_types.specs.declared.verdicts.Verdict.TheVariants.{Passed, Failed, Undecided, Raised, Missing, NoDatum}
 use Rattle.tg_verdict.specs.Verdicts.{verdict_at}
@@ -18,14 +17,6 @@ abbrev pub tests_from : ℕ → List Choice → List ℕ
 tests_from n [] = []
 tests_from n (Some vs ∷ xs) = n ∷ tests_from (suc n) xs
 tests_from n (None ∷ xs) = tests_from (suc n) xs
-
--- what is recorded of a test: the program's answer, or none where it raised an error
-pub record Record : Type 0 where
-  pub test : ℕ
-  pub answer : Option Value
-
-abbrev pub record_of : code.Outcome → Record
-record_of o = record { test = o.test; answer = answer_of o }
 
 abbrev pub recorded : List Record → ℕ → Option Record
 recorded rs n = find (λ (r : Record). nat_eq n r.test) rs

@@ -8,4 +8,6 @@ pub mod Options
 pub mod Output
 pub mod Promises
 pub mod Reading
+pub mod Requests
+pub mod StandIn
 pub mod Tests

@@ -14,7 +14,8 @@ use Rattle.tg_report.specs.FormulaTexts.{formula_tokens}
 use Rattle.tg_types.specs.declared.verdicts.Verdict.{Verdict}
 use Rattle.tg_types.specs.declared.verdicts.Verdict.TheVariants.{Passed, Failed, Undecided, Raised, Missing, NoDatum}
 use Rattle.tg_cmd.specs.Data.{choices_by_data}
-use Rattle.tg_cmd.specs.Judging.{Record, verdicts_from, choices_by_verdicts}
+use Rattle.tg_harness.specs.Tests.{Record}
+use Rattle.tg_cmd.specs.Judging.{verdicts_from, choices_by_verdicts}
 
 abbrev pub head_lines : Theory → Settings → List (List Seen)
 head_lines th s = (name (codes "testgen") ∷ name th.name ∷ []) ∷ settings_line s ∷ []

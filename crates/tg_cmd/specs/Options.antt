@@ -1,15 +1,9 @@
--- The words of a run: a command, then options, each at most once with its number.
+-- The options of a run, each at most once with its number.
 use Rattle.std.specs.Prelude.{ℕ, ◌≡◌, ◌≤◌, ◌^◌, ◌-◌, ◌⊎◌, List, [], ◌∷◌, All, codes, decimal, Option, Some, None, unwrap_or}
 use Rattle.tg_types.specs.declared.options.Settings.{Settings}
-use Rattle.tg_cmd.specs.declared.command.Command.{Command}
-use Rattle.tg_cmd.specs.declared.command.Command.TheVariants.{Generate, Judge}
 use Rattle.tg_cmd.specs.declared.options.Setting.{Setting}
 use Rattle.tg_cmd.specs.declared.options.Setting.TheVariants.{Depth, Bound, Seed, Tries, Width}
 use Rattle.tg_cmd.specs.declared.options.Chosen.{Chosen}
-
-abbrev pub command_word : Command → List ℕ
-command_word Generate = codes "generate"
-command_word Judge = codes "judge"
 
 abbrev pub option_word : Setting → List ℕ
 option_word Depth = codes "--depth"
@@ -86,15 +80,11 @@ settings_in c = record {
   width = unwrap_or c.width 16;
 }
 
--- The words are the command with choices of these settings.
-abbrev pub ReadsWords : List (List ℕ) → Command → Settings → Type 0
-ReadsWords words command settings =
-    (choices : List Choice) × All IsChoice choices × AreOnce choices × (words ≡ command_word command ∷ spelled choices)
-    × (settings ≡ settings_in (all_chosen nothing_chosen choices))
-
--- the words are those of some command
-abbrev pub IsCommand : List (List ℕ) → Type 0
-IsCommand words = (command : Command) × (settings : Settings) × ReadsWords words command settings
+-- The words are choices that make the settings.
+abbrev pub ReadsOptions : List (List ℕ) → Settings → Type 0
+ReadsOptions words s =
+    (choices : List Choice) × All IsChoice choices × AreOnce choices × (words ≡ spelled choices)
+    × (s ≡ settings_in (all_chosen nothing_chosen choices))
 
 -- ---- reading them, where some options were given before
 
@@ -113,9 +103,3 @@ pub record IsSpelled (option number : List ℕ) (c : Choice) : Type 0 where
   pub allowed : IsChoice c
   pub named : option ≡ option_word c.0
   pub numbered : number ≡ decimal c.1
-
--- The words ask for this command and these settings, and for no others.
-pub record AskFor (words : List (List ℕ)) (command : Command) (settings : Settings) : Type 0 where
-  pub asked : IsCommand words
-  pub reads : ReadsWords words command settings
-  pub only : (c : Command) (s : Settings) → ReadsWords words c s → (command ≡ c) × (settings ≡ s)

@@ -22,12 +22,18 @@ use Rattle.tg_cmd.specs.declared.answer.Answer.{Answer}
 use Rattle.tg_cmd.specs.declared.answer.Answer.TheVariants.{Done, TestsFailed, Usage, ReadFault, WriteFault, Memory, Refused, Limit}
 use Rattle.tg_cmd.specs.declared.answer.LimitName.{LimitName}
 use Rattle.tg_cmd.specs.declared.answer.LimitName.TheVariants as limits
-use Rattle.tg_cmd.specs.declared.command.Command.{Command}
-use Rattle.tg_cmd.specs.declared.command.Command.TheVariants.{Generate, Judge}
+use Rattle.tg_cmd.specs.declared.making.Task.{Task}
+use Rattle.tg_cmd.specs.declared.making.Task.TheVariants as tasks
 use Rattle.tg_cmd.specs.Causes.{longest, IsRefusal, IsLimit, OfRaw, OfInput}
 use Rattle.tg_cmd.specs.Data.{choices_by_data}
-use Rattle.tg_cmd.specs.Judging.{Record, record_of, tests_from, verdicts_from}
+use Rattle.tg_harness.specs.HarnessTexts.{harness_text}
+use Rattle.tg_harness.specs.OutcomeTexts.{outcomes_text}
+use Rattle.tg_harness.specs.Tests.{Record, record_of}
+use Rattle.tg_cmd.specs.Judging.{tests_from, verdicts_from}
 use Rattle.tg_cmd.specs.Lines.{count_of, report_on, judged_report_on}
+use Rattle.tg_cmd.specs.Requests.{Request, generate, harness, judge, simulate}
+use Rattle.tg_cmd.specs.StandIn.{StandsIn, simulated}
+use Rattle.tg_cmd.specs.Tests.{tests_by_data}
 
 -- the limits of the work on classes
 abbrev pub limit_of : work.Limit → LimitName
@@ -41,14 +47,39 @@ pub data OfClasses (Of : List Class → Answer → List ℕ → Type 0) (k : ℕ
   limited : (l : work.Limit) → Derived th k (work.passed l) → IsLimit (limit_of l) answer text → OfClasses Of k th answer text
   classes : (cs : List Class) → AreClasses th k cs → Of cs answer text → OfClasses Of k th answer text
 
+-- of a theory as it is read, to the depth of the settings
+abbrev pub OfTheory : (Settings → model.Theory → List Class → Answer → List ℕ → Type 0) → Settings → RawTheory → Answer → List ℕ → Type 0
+OfTheory Of s = OfRaw (λ th. OfClasses (Of s th) s.depth th)
+
 -- ---- `generate`
 
 pub record IsReport (s : Settings) (th : model.Theory) (cs : List Class) (answer : Answer) (text : List ℕ) : Type 0 where
   pub answers : answer ≡ Done
   pub says : text ≡ report_on th s cs
 
-abbrev pub Generated : Settings → RawTheory → Answer → List ℕ → Type 0
-Generated s = OfRaw (λ th. OfClasses (IsReport s th) s.depth th)
+-- ---- `harness`
+
+pub record IsHarness (s : Settings) (th : model.Theory) (cs : List Class) (answer : Answer) (text : List ℕ) : Type 0 where
+  pub answers : answer ≡ Done
+  pub says : text ≡ harness_text th s (tests_by_data th s cs)
+
+-- ---- `simulate`
+
+-- the outcomes of the tests where the n-th function stands in
+pub record IsSimulation (n : ℕ) (s : Settings) (th : model.Theory) (cs : List Class) (answer : Answer) (text : List ℕ) : Type 0 where
+  pub answers : answer ≡ Done
+  pub says : text ≡ outcomes_text th s (simulated th n (tests_by_data th s cs))
+
+-- No function of the name can stand in, or one does.
+pub data OfStandIn (name : List ℕ) (s : Settings) (th : model.Theory) (cs : List Class) (answer : Answer) (text : List ℕ) : Type 0 where
+  none : ((n : ℕ) → ¬ (StandsIn th name n)) → IsRefusal refusals.StandIn answer text → OfStandIn name s th cs answer text
+  stands_in : (n : ℕ) → StandsIn th name n → IsSimulation n s th cs answer text → OfStandIn name s th cs answer text
+
+-- as the program has the three
+abbrev pub Makes : Task → Settings → model.Theory → List Class → Answer → List ℕ → Type 0
+Makes tasks.Report = IsReport
+Makes tasks.Harness = IsHarness
+Makes (tasks.Outcomes name) = OfStandIn name.now
 
 -- ---- `judge`
 
@@ -79,14 +110,16 @@ pub data OfOutcomes (s : Settings) (raw : RawOutcomes) (th : model.Theory) (cs :
       → OfOutcomes s raw th cs answer text
 
 abbrev pub Judged : Settings → RawTheory × RawOutcomes → Answer → List ℕ → Type 0
-Judged s v = OfRaw (λ th. OfClasses (OfOutcomes s v.1 th) s.depth th) v.0
+Judged s v = OfTheory (λ s th. OfOutcomes s v.1 th) s v.0
 
 -- ---- a run
 
--- what a run of the command that ends with the answer has to write, where the source held `input`
-abbrev pub IsOutput : Command → Settings → List ℕ → Answer → List ℕ → Type 0
-IsOutput Generate s input answer text = OfInput Theory (Generated s) input answer text
-IsOutput Judge s input answer text = OfInput parts.Judge (Judged s) input answer text
+-- what a run that is asked for this and ends with the answer has to write, where the source held `input`
+abbrev pub IsOutput : Request → List ℕ → Answer → List ℕ → Type 0
+IsOutput (generate s) input answer text = OfInput Theory (OfTheory IsReport s) input answer text
+IsOutput (harness s) input answer text = OfInput Theory (OfTheory IsHarness s) input answer text
+IsOutput (judge s) input answer text = OfInput parts.Judge (Judged s) input answer text
+IsOutput (simulate name s) input answer text = OfInput Theory (OfTheory (OfStandIn name) s) input answer text
 
 -- what the source had left was read, but for what stands behind one byte past the longest input
 abbrev pub IsRead : Option (List ℕ) → Option (List ℕ) → Type 0
@@ -99,30 +132,30 @@ abbrev pub IsReadInPart : Option (List ℕ) → Option (List ℕ) → Type 0
 IsReadInPart old new = (bytes : List ℕ) × Consumes old new bytes × (length bytes ≤ longest + 1)
 
 -- the whole of the output was written
-pub record Writes (command : Command) (s : Settings) (answer : Answer) (left old new : Option (List ℕ)) : Type 0 where
+pub record Writes (request : Request) (answer : Answer) (left old new : Option (List ℕ)) : Type 0 where
   pub text : List ℕ
-  pub output : IfSome left (λ input. IsOutput command s input answer text)
+  pub output : IfSome left (λ input. IsOutput request input answer text)
   pub appended : Appends old new text
 
 -- exactly the first `written` bytes of an output were written
-pub record WritesFront (command : Command) (s : Settings) (written : ℕ) (left old new : Option (List ℕ)) : Type 0 where
+pub record WritesFront (request : Request) (written : ℕ) (left old new : Option (List ℕ)) : Type 0 where
   pub answer : Answer
   pub text : List ℕ
-  pub output : IfSome left (λ input. IsOutput command s input answer text)
+  pub output : IfSome left (λ input. IsOutput request input answer text)
   pub part : written < length text
   pub appended : Appends old new (take written text)
 
--- what an answer of a command says of the bytes: `left` and `left'` are those that the source has left before and after the run, `old`
+-- what an answer to a request says of the bytes: `left` and `left'` are those that the source has left before and after the run, `old`
 -- and `new` those that the sink has taken
-abbrev pub HasBytes : Command → Settings → Answer → Option (List ℕ) → Option (List ℕ) → Option (List ℕ) → Option (List ℕ) → Type 0
-HasBytes command s Done left left' old new = IsRead left left' × Writes command s Done left old new
-HasBytes command s TestsFailed left left' old new = IsRead left left' × Writes command s TestsFailed left old new
-HasBytes command s (Refused refusal) left left' old new = IsRead left left' × Writes command s (Refused refusal) left old new
-HasBytes command s (Limit name) left left' old new = IsRead left left' × Writes command s (Limit name) left old new
-HasBytes command s (WriteFault written) left left' old new = IsRead left left' × WritesFront command s written left old new
-HasBytes command s Usage left left' old new = Unit {0}
-HasBytes command s ReadFault left left' old new = IsReadInPart left left'
-HasBytes command s Memory left left' old new = IsReadInPart left left'
+abbrev pub HasBytes : Request → Answer → Option (List ℕ) → Option (List ℕ) → Option (List ℕ) → Option (List ℕ) → Type 0
+HasBytes request Done left left' old new = IsRead left left' × Writes request Done left old new
+HasBytes request TestsFailed left left' old new = IsRead left left' × Writes request TestsFailed left old new
+HasBytes request (Refused refusal) left left' old new = IsRead left left' × Writes request (Refused refusal) left old new
+HasBytes request (Limit name) left left' old new = IsRead left left' × Writes request (Limit name) left old new
+HasBytes request (WriteFault written) left left' old new = IsRead left left' × WritesFront request written left old new
+HasBytes request Usage left left' old new = Unit {0}
+HasBytes request ReadFault left left' old new = IsReadInPart left left'
+HasBytes request Memory left left' old new = IsReadInPart left left'
 
 -- nothing is written at these answers
 abbrev pub IsSilent : Answer → Type 0
@@ -168,8 +201,8 @@ IsInterrupted (Refused refusal) = ⊥
 IsInterrupted (Limit name) = ⊥
 
 -- An answer that the input has is the answer of the run, unless the run is interrupted.
-abbrev pub Completes : Command → Settings → List ℕ → Answer → Type 0
-Completes c s input answer = (a : Answer) (text : List ℕ) → IsOutput c s input a text → (answer ≡ a) ⊎ IsInterrupted answer
+abbrev pub Completes : Request → List ℕ → Answer → Type 0
+Completes request input answer = (a : Answer) (text : List ℕ) → IsOutput request input a text → (answer ≡ a) ⊎ IsInterrupted answer
 
 -- a run that ends so has written a result
 abbrev pub IsResult : Answer → Type 0

@@ -20,7 +20,8 @@ use Rattle.tg_infer.specs.View.{raw_declaration}
 use Rattle.tg_derive.specs.Classes.{AreClasses}
 use Rattle.tg_derive.specs.Theorem.{Choice, theorem_of, assumptions_of}
 use Rattle.tg_cmd.specs.Data.{choices_by_data}
-use Rattle.tg_cmd.specs.Judging.{Record, record_of, recorded, verdict_of, verdicts_from, choices_by_verdicts, HasOutcome}
+use Rattle.tg_harness.specs.Tests.{Record, record_of}
+use Rattle.tg_cmd.specs.Judging.{recorded, verdict_of, verdicts_from, choices_by_verdicts, HasOutcome}
 use Rattle.tg_cmd.specs.Lines.{report_on, judged_report_on}
 use Rattle.tg_cmd.specs.Output.{tests_of}
 use Rattle.tg_cmd.specs.Reading.{IsTextOf}

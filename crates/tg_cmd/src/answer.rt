@@ -98,6 +98,9 @@ pub enum Refusal {
         /// The number in the record.
         test: u64,
     },
+    /// No function of the name has the program's type, at whatever types for its type variables.
+    #[error("refused standin")]
+    StandIn,
 }
 
 /// What an input can have too much of.
@@ -173,6 +176,7 @@ pub(crate) fn put_refusal(out: &mut Vec<u8>, refusal: Refusal) -> Result<(), All
         Refusal::Unknown { test } => put_place(out, b"refused unknown at test ", test),
         Refusal::Repeated { test } => put_place(out, b"refused repeated at test ", test),
         Refusal::BadAnswer { test } => put_place(out, b"refused answer at test ", test),
+        Refusal::StandIn => put(out, &[Text(b"refused standin\n")]),
     }
 }
 

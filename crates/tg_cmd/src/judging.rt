@@ -4,7 +4,8 @@ ghost use Rattle.tg_cmd.specs.Judging.{tested_if_passed, choices_by_verdicts};
 ghost use Rattle.tg_cmd.specs.Lines.{number_of, once, count_of};
 ghost use Rattle.tg_cmd.specs.Output.{ending_on};
 ghost use Rattle.tg_cmd.specs.Answers.{answer_after};
-ghost use Rattle.tg_cmd.specs.Tests.{test, test_at, tests_at};
+ghost use Rattle.tg_cmd.specs.Tests.{test_at, tests_at};
+ghost use Rattle.tg_harness.specs.Tests.{test};
 ghost use Rattle.tg_derive.specs.Answers.{choice_of};
 ghost use Rattle.tg_hyps.specs.Hypotheses.{seen};
 

@@ -5,20 +5,21 @@
 #![tactic(auto)]
 
 mod answer;
-mod command;
 mod data;
 mod judging;
 #[cfg(test)]
 mod judging_tests;
+mod making;
 mod options;
 mod output;
 #[cfg(test)]
 mod reading_tests;
 mod report;
+mod request;
+mod standing;
 #[cfg(test)]
 mod tests;
 mod top;
 
 pub use answer::{Answer, LimitName, Refusal};
-pub use command::Command;
 pub use top::run;

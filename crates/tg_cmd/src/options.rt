@@ -1,9 +1,7 @@
-//! The words of a run, read by hand. It takes no memory, so that words that are no command are told even
-//! where there is none.
+//! The options of a run.
 ghost use Rattle.std.specs.Prelude.{◌≡◌, ◌≢◌, ◌<◌, ◌^◌, ◌↔◌, IsTrue, MatchOption, None, decimal};
-ghost use Rattle.tg_cmd.specs.Options.{command_word, option_word, IsChoice, choice_of, chosen, all_chosen, settings_in, AskFor, IsCommand, Spell, IsSpelled};
+ghost use Rattle.tg_cmd.specs.Options.{option_word, IsChoice, choice_of, chosen, all_chosen, settings_in, ReadsOptions, Spell, IsSpelled};
 
-use crate::command::Command;
 use itoa::Buffer;
 use tg_types::{Name, Settings};
 
@@ -69,28 +67,12 @@ impl Chosen {
     }
 }
 
-/// A command and its settings.
-#[derive(Clone, Copy, Debug)]
-pub(crate) struct Request {
-    pub(crate) command: Command,
-    pub(crate) settings: Settings,
-}
-
-/// What the words ask for, if they are those of a command.
-pub(crate) fn request_of(words: &[Name]) -> Option<Request>
-    ensures { MatchOption result (IsCommand words.now → ⊥) (λ r. AskFor words.now r.command r.settings) }
+/// The settings that the words make, if they are options.
+pub(crate) fn settings_of(words: &[Name]) -> Option<Settings>
+    ensures { MatchOption result ((s : _) → ReadsOptions words.now s → ⊥) (ReadsOptions words.now) }
 {
-    match words {
-        [command, options @ ..] => {
-            let command = command_of(command)?;
-            let chosen = options_of(options, NOTHING_CHOSEN)?;
-            Some(Request {
-                command,
-                settings: settings_in(&chosen),
-            })
-        }
-        [] => None,
-    }
+    let chosen = options_of(words, NOTHING_CHOSEN)?;
+    Some(settings_in(&chosen))
 }
 
 const NOTHING_CHOSEN: Chosen = Chosen {
@@ -100,19 +82,6 @@ const NOTHING_CHOSEN: Chosen = Chosen {
     tries: None,
     width: None,
 };
-
-fn command_of(word: &Name) -> Option<Command>
-    ensures { MatchOption result ((c : _) → word.now ≢ command_word c) (λ c. word.now ≡ command_word c) }
-{
-    let word = word.bytes();
-    if word == b"generate".as_slice() {
-        Some(Command::Generate)
-    } else if word == b"judge".as_slice() {
-        Some(Command::Judge)
-    } else {
-        None
-    }
-}
 
 fn setting_of(word: &Name) -> Option<Setting>
     ensures { MatchOption result ((s : _) → word.now ≢ option_word s) (λ s. word.now ≡ option_word s) }

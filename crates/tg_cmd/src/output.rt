@@ -4,24 +4,26 @@ ghost use Rattle.tg_lex.specs.Grammar.{Reads, IsTokenOf};
 ghost use Rattle.tg_grammar.specs.Seen.{seen, declarations};
 ghost use Rattle.tg_cmd.specs.declared.answer.Refusal.TheVariants as refusals;
 ghost use Rattle.tg_cmd.specs.Answers.{answer_after};
-ghost use Rattle.tg_cmd.specs.Causes.{longest, IsRefusal, IsLimit};
-ghost use Rattle.tg_cmd.specs.Output.{IsOutput, IsRead, IsReadInPart, IsStop, IsReport, IsJudgement, OfClasses, OfOutcomes, Generated, Judged, IsOutcomeLine};
+ghost use Rattle.tg_cmd.specs.Causes.{longest, IsRefusal, IsLimit, OfInput};
+ghost use Rattle.tg_cmd.specs.Output.{IsOutput, IsRead, IsReadInPart, IsStop, IsJudgement, Makes, OfClasses, OfOutcomes, OfTheory, Judged, IsOutcomeLine};
 ghost use Rattle.tg_cmd.specs.Ends.{IsFaultLine, HasTokenLine, IsTheoryLine, IsPassedLine};
 ghost use Rattle.tg_infer.specs.TextNames.{IsNamed};
 ghost use Rattle.tg_cmd.specs.Data.{choices_by_data};
-ghost use Rattle.tg_cmd.specs.Judging.{record_of};
-ghost use Rattle.tg_cmd.specs.Tests.{test, tests_at};
+ghost use Rattle.tg_cmd.specs.Requests.{asked};
+ghost use Rattle.tg_cmd.specs.Tests.{tests_at};
 ghost use Rattle.tg_derive.specs.Answers.{choice_of};
 ghost use Rattle.tg_derive.specs.Classes.{AreClasses};
+ghost use Rattle.tg_grammar.specs.Parts as parts;
+ghost use Rattle.tg_harness.specs.Tests.{test, record_of};
 ghost use Rattle.tg_hyps.specs.Hypotheses as hyps;
 ghost use Rattle.tg_verdict.specs.Places.{AreOnce, outcome_number};
 
 use crate::answer::{Answer, Ending, LimitName, Refusal, put_limit, put_refusal};
-use crate::command::Command;
 use crate::data::choices_by_data;
 use crate::judging::{ending_on, tests_of};
-use crate::options::Request;
-use crate::report::{judged_report_on, report_on};
+use crate::making::{Task, make};
+use crate::report::judged_report_on;
+use crate::request::Request;
 use std::alloc::{AllocError, Global};
 use tg_derive::{Choice, LimitErr, classes};
 use tg_grammar::{RawOutcomes, RawTheory, place};
@@ -57,10 +59,10 @@ impl From<AllocError> for NoMemory {
 /// Reads the source and makes the output of the request. At an error, nothing is to be written.
 pub(crate) fn make_output<S: Source>(
     alloc: Global,
-    request: &Request,
+    request: &Request<'_>,
     source: &mut S,
 ) -> Result<Output, Answer>
-    ensures made { let r = request.now in IfOk result (λ o. IfSome (S.left source.old) (λ input. IsOutput r.command r.settings input (answer_after o.ending) o.text.items)) }
+    ensures made { IfOk result (λ o. IfSome (S.left source.old) (λ input. IsOutput (asked request.now) input (answer_after o.ending) o.text.items)) }
     ensures read { OnOk result (IsRead (S.left source.old) (S.left source.new)) }
     ensures part { OnErr result (IsReadInPart (S.left source.old) (S.left source.new)) }
     ensures stop { IfErr result (λ a. IsStop a (S.faults source.old) (S.faults source.new)) }
@@ -83,8 +85,8 @@ fn or_memory(made: Result<Output, NoMemory>) -> Result<Output, Answer>
     }
 }
 
-fn output_of(alloc: Global, request: &Request, bytes: &[u8]) -> Result<Output, NoMemory>
-    ensures { let r = request.now in length bytes.now ≤ longest → IfOk result (λ o. IsOutput r.command r.settings bytes.now (answer_after o.ending) o.text.items) }
+fn output_of(alloc: Global, request: &Request<'_>, bytes: &[u8]) -> Result<Output, NoMemory>
+    ensures { length bytes.now ≤ longest → IfOk result (λ o. IsOutput (asked request.now) bytes.now (answer_after o.ending) o.text.items) }
 {
     match lex(alloc, bytes) {
         Ok(tokens) => of_tokens(alloc, request, bytes, tokens.as_slice()),
@@ -116,22 +118,55 @@ fn wrong_token(alloc: Global, bytes: &[u8], before: &[Token]) -> Result<Output, 
 
 fn of_tokens(
     alloc: Global,
-    request: &Request,
+    request: &Request<'_>,
     bytes: &[u8],
     tokens: &[Token],
 ) -> Result<Output, NoMemory>
     requires { Reads bytes.now tokens.now }
-    ensures { let r = request.now in length bytes.now ≤ longest → IfOk result (λ o. IsOutput r.command r.settings bytes.now (answer_after o.ending) o.text.items) }
+    ensures { length bytes.now ≤ longest → IfOk result (λ o. IsOutput (asked request.now) bytes.now (answer_after o.ending) o.text.items) }
 {
-    match request.command {
-        Command::Generate => match parse_theory(alloc, bytes, tokens) {
-            Ok(theory) => reported(alloc, &request.settings, &theory),
-            Err(error) => without_text(alloc, error),
-        },
-        Command::Judge => match parse_judge(alloc, bytes, tokens) {
-            Ok((theory, outcomes)) => judged(alloc, &request.settings, &theory, &outcomes),
-            Err(error) => without_text(alloc, error),
-        },
+    match request {
+        Request::Generate(settings) => of_theory(alloc, settings, &Task::Report, bytes, tokens),
+        Request::Harness(settings) => of_theory(alloc, settings, &Task::Harness, bytes, tokens),
+        Request::Judge(settings) => of_outcomes(alloc, settings, bytes, tokens),
+        Request::Simulate(name, settings) => {
+            of_theory(alloc, settings, &Task::Outcomes(name), bytes, tokens)
+        }
+    }
+}
+
+/// The output of a task on the theory that the tokens are.
+fn of_theory(
+    alloc: Global,
+    settings: &Settings,
+    task: &Task<'_>,
+    bytes: &[u8],
+    tokens: &[Token],
+) -> Result<Output, NoMemory>
+    requires { Reads bytes.now tokens.now }
+    ensures { length bytes.now ≤ longest
+        → IfOk result (λ o. OfInput parts.Theory (OfTheory (Makes task.now) settings.now) bytes.now (answer_after o.ending) o.text.items) }
+{
+    match parse_theory(alloc, bytes, tokens) {
+        Ok(theory) => worked(alloc, settings, task, &theory),
+        Err(error) => without_text(alloc, error),
+    }
+}
+
+/// The judgement on the theory and the outcomes that the tokens are.
+fn of_outcomes(
+    alloc: Global,
+    settings: &Settings,
+    bytes: &[u8],
+    tokens: &[Token],
+) -> Result<Output, NoMemory>
+    requires { Reads bytes.now tokens.now }
+    ensures { length bytes.now ≤ longest
+        → IfOk result (λ o. OfInput parts.Judge (Judged settings.now) bytes.now (answer_after o.ending) o.text.items) }
+{
+    match parse_judge(alloc, bytes, tokens) {
+        Ok((theory, outcomes)) => judged(alloc, settings, &theory, &outcomes),
+        Err(error) => without_text(alloc, error),
     }
 }
 
@@ -146,25 +181,32 @@ fn without_text(alloc: Global, error: FormErr) -> Result<Output, NoMemory>
     }
 }
 
-/// The report on a theory, or the line that says why there is none.
-fn reported(alloc: Global, settings: &Settings, read: &RawTheory) -> Result<Output, NoMemory>
+/// What is made of a theory, or the line that says why there is nothing.
+fn worked(
+    alloc: Global,
+    settings: &Settings,
+    task: &Task<'_>,
+    read: &RawTheory,
+) -> Result<Output, NoMemory>
     requires { IsNamed read.now }
-    ensures { IfOk result (λ o. Generated settings.now read.now (answer_after o.ending) o.text.items) }
+    ensures { IfOk result (λ o. OfTheory (Makes task.now) settings.now read.now (answer_after o.ending) o.text.items) }
 {
     match elaborate(alloc, read) {
-        Ok(theory) => report(alloc, settings, &theory),
+        Ok(theory) => worked_theory(alloc, settings, task, &theory),
         Err(error) => unaccepted(alloc, error),
     }
 }
 
-fn report(alloc: Global, settings: &Settings, theory: &Theory) -> Result<Output, NoMemory>
-    ensures { IfOk result (λ o. OfClasses (IsReport settings.now theory.now) settings.now.depth theory.now (answer_after o.ending) o.text.items) }
+fn worked_theory(
+    alloc: Global,
+    settings: &Settings,
+    task: &Task<'_>,
+    theory: &Theory,
+) -> Result<Output, NoMemory>
+    ensures { IfOk result (λ o. OfClasses (Makes task.now settings.now theory.now) settings.now.depth theory.now (answer_after o.ending) o.text.items) }
 {
     match classes(alloc, theory, settings.depth) {
-        Ok(classes) => Ok(Output {
-            text: report_on(alloc, theory, settings, classes.as_slice())?,
-            ending: Ending::Done,
-        }),
+        Ok(classes) => make(alloc, task, settings, theory, classes.as_slice()),
         Err(error) => without_classes(alloc, error),
     }
 }
@@ -295,7 +337,7 @@ fn judgement(
     })
 }
 
-fn refused(alloc: Global, refusal: Refusal) -> Result<Output, NoMemory>
+pub(crate) fn refused(alloc: Global, refusal: Refusal) -> Result<Output, NoMemory>
     ensures { IfOk result (λ o. IsRefusal refusal (answer_after o.ending) o.text.items) }
 {
     let mut text = Vec::new(alloc);

@@ -1,16 +1,14 @@
 ghost use Rattle.std.specs.Prelude.{◌≡◌, ◌↔◌, IfSome};
 ghost use Rattle.tg_io.specs.Faults.{Rose};
 ghost use Rattle.tg_io.specs.Whole.{written_of};
-ghost use Rattle.tg_cmd.specs.declared.command.Command.{Command};
 ghost use Rattle.tg_types.specs.declared.options.Settings.{Settings};
-ghost use Rattle.tg_cmd.specs.Options.{ReadsWords, IsCommand};
-ghost use Rattle.tg_cmd.specs.declared.command.Command.TheVariants.{Generate, Judge};
+ghost use Rattle.tg_cmd.specs.Requests.{Request, generate, judge, ReadsWords, IsCommand};
 ghost use Rattle.tg_cmd.specs.Output.{HasBytes, Completes, IsResult, IsSilent, IsWriteFault, IsWritten};
 ghost use Rattle.tg_cmd.specs.Promises.{PrintsTheorem, PrintsHeadline};
 
 use crate::answer::{Answer, Ending};
-use crate::options::request_of;
 use crate::output::make_output;
+use crate::request::request_of;
 use std::alloc::Global;
 use tg_io::{Sink, Source, WriteErr, write_all};
 use tg_types::Name;
@@ -50,10 +48,10 @@ pub fn run<S: Source, K: Sink>(
     ensures write_fault { IsWriteFault result → Rose (K.faults sink.old) (K.faults sink.new) }
     ensures memory { result ≡ Answer.Memory → (S.faults source.new ≡ S.faults source.old) × (K.faults sink.new ≡ K.faults sink.old) }
     ensures silent { IsSilent result → sink.new ≡ sink.old }
-    ensures complete { (c : Command) (s : Settings) → ReadsWords words.now c s → IfSome (S.left source.old) (λ input. Completes c s input result) }
-    ensures theorem { (s : Settings) → ReadsWords words.now Generate s → result ≡ Answer.Done → IsWritten (PrintsTheorem s) (S.left source.old) (K.written sink.old) (K.written sink.new) }
-    ensures headline { (s : Settings) → ReadsWords words.now Judge s → IsResult result → IsWritten (PrintsHeadline s) (S.left source.old) (K.written sink.old) (K.written sink.new) }
-    ensures bytes { (c : Command) (s : Settings) → ReadsWords words.now c s → HasBytes c s result (S.left source.old) (S.left source.new) (K.written sink.old) (K.written sink.new) }
+    ensures complete { (r : Request) → ReadsWords words.now r → IfSome (S.left source.old) (λ input. Completes r input result) }
+    ensures theorem { (s : Settings) → ReadsWords words.now (generate s) → result ≡ Answer.Done → IsWritten (PrintsTheorem s) (S.left source.old) (K.written sink.old) (K.written sink.new) }
+    ensures headline { (s : Settings) → ReadsWords words.now (judge s) → IsResult result → IsWritten (PrintsHeadline s) (S.left source.old) (K.written sink.old) (K.written sink.new) }
+    ensures bytes { (r : Request) → ReadsWords words.now r → HasBytes r result (S.left source.old) (S.left source.new) (K.written sink.old) (K.written sink.new) }
 {
     let request = match request_of(words) {
         Some(request) => request,

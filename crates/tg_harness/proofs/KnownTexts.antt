@@ -2,7 +2,7 @@
 use Rattle.std.specs.Prelude.{◌≡◌, ℕ, List, [], ◌∷◌, ◌++◌, map, codes, decimal, true, false, Some, None}
 use Rattle.std.proofs.Common.{refl}
 use Rattle.tg_model.specs.Theory.{Theory}
-use Rattle.tg_model.specs.Value.{number, boolean, none, more}
+use Rattle.tg_model.specs.Value.{number, boolean}
 use Rattle.tg_grammar.specs.Seen.{Seen}
 use Rattle.tg_render.specs.Render as render
 use Rattle.tg_harness.specs.OutcomeTexts.{recorded}
@@ -18,14 +18,14 @@ module _ (th : Theory) where
   raised : texts (recorded th 1 None) ≡ codes "raised" ∷ decimal 1 ∷ codes ";" ∷ []
   raised = refl
 
-  no_word : words th none ≡ []
+  no_word : words th [] ≡ []
   no_word = refl
 
-  each_quoted : words th (more (boolean false) (more (boolean true) none)) ≡ codes " 'False' 'True'"
+  each_quoted : words th (boolean false ∷ boolean true ∷ []) ≡ codes " 'False' 'True'"
   unfolding render.put
   each_quoted = refl
 
-  a_line : test_line th 3 (more (boolean true) none)
+  a_line : test_line th (record { number = 3; datum = boolean true ∷ [] })
       ≡ codes "if a=$(\"$1\" 'True'); then printf '%s\\n' \"answer " ++ (decimal 3 ++ (codes " $a;\"; else printf '%s\\n' 'raised " ++ (decimal 3 ++ codes ";'; fi\n")))
   unfolding render.put
   a_line = refl

@@ -1,7 +1,8 @@
 //! Recorded outcomes.
-ghost use Rattle.std.specs.Prelude.{◌≡◌, IfOk, OnOk};
+ghost use Rattle.std.specs.Prelude.{◌≡◌, IfOk, OnOk, map};
 ghost use Rattle.tg_render.specs.Render.{written, written_line, written_lines};
 ghost use Rattle.tg_harness.specs.OutcomeTexts.{head_line, record_lines, recorded, outcomes_text};
+ghost use Rattle.tg_harness.specs.Tests.{record_of};
 ghost use Rattle.tg_term.specs.Classes.{answer_of};
 
 use std::alloc::{AllocError, Global};
@@ -20,7 +21,7 @@ pub fn outcomes(
     s: &Settings,
     list: &[Outcome],
 ) -> Result<Vec<u8>, AllocError>
-    ensures { IfOk result (λ text. text.items ≡ outcomes_text th.now s.now list.now) }
+    ensures { IfOk result (λ text. text.items ≡ outcomes_text th.now s.now (map record_of list.now)) }
 {
     let mut out = Vec::new(alloc);
     put_head(&mut out, s)?;
@@ -44,7 +45,7 @@ pub(crate) fn put_head(out: &mut Vec<u8>, s: &Settings) -> Result<(), AllocError
 /// Writes a line for each outcome.
 #[tactic(auto, using(crate::proofs::OutcomeLaws::writing))]
 fn put_records(out: &mut Vec<u8>, th: &Theory, list: &[Outcome]) -> Result<(), AllocError>
-    ensures { OnOk result (out.new.items ≡ written_lines out.old.items (record_lines th.now list.now)) }
+    ensures { OnOk result (out.new.items ≡ written_lines out.old.items (record_lines th.now (map record_of list.now))) }
 {
     for outcome in list {
         put_record(out, th, outcome)?;

@@ -1,10 +1,10 @@
 //! The harness.
-ghost use Rattle.std.specs.Prelude.{◌≡◌, ◌++◌, IfOk, OnOk};
+ghost use Rattle.std.specs.Prelude.{◌≡◌, ◌++◌, IfOk, OnOk, map};
 ghost use Rattle.tg_harness.specs.HarnessTexts.{quoted, words, print, test_line, test_lines, harness_text};
 ghost use Rattle.tg_harness.specs.OutcomeTexts.{head_line};
 ghost use Rattle.tg_render.specs.Render.{render};
-ghost use Rattle.tg_term.specs.Classes.{datum_of};
-ghost use Rattle.tg_term.specs.Values.{values};
+ghost use Rattle.tg_harness.specs.Tests.{test};
+ghost use Rattle.tg_term.specs.Values.{value};
 
 use crate::recording::put_head;
 use std::alloc::{AllocError, Global};
@@ -24,7 +24,7 @@ pub fn write(
     s: &Settings,
     tests: &[Test],
 ) -> Result<Vec<u8>, AllocError>
-    ensures { IfOk result (λ text. text.items ≡ harness_text th.now s.now tests.now) }
+    ensures { IfOk result (λ text. text.items ≡ harness_text th.now s.now (map test tests.now)) }
 {
     let mut head = Vec::new(alloc);
     put_head(&mut head, s)?;
@@ -50,7 +50,7 @@ fn put_tests(
     th: &Theory,
     tests: &[Test],
 ) -> Result<(), AllocError>
-    ensures { OnOk result (out.new.items ≡ out.old.items ++ test_lines th.now tests.now) }
+    ensures { OnOk result (out.new.items ≡ out.old.items ++ test_lines th.now (map test tests.now)) }
 {
     for test in tests {
         put_test(alloc, out, th, test)?;
@@ -60,12 +60,12 @@ fn put_tests(
 
 /// Writes the line of a test.
 #[tactic(auto, using(crate::proofs::HarnessLaws::writing))]
-fn put_test(alloc: Global, out: &mut Vec<u8>, th: &Theory, test: &Test) -> Result<(), AllocError>
-    ensures { OnOk result (out.new.items ≡ out.old.items ++ test_line th.now test.now.class (datum_of test.now)) }
+fn put_test(alloc: Global, out: &mut Vec<u8>, th: &Theory, t: &Test) -> Result<(), AllocError>
+    ensures { OnOk result (out.new.items ≡ out.old.items ++ test_line th.now (test t.now)) }
 {
-    let number = u64::from(test.class);
+    let number = u64::from(t.class);
     put(out, &[Text(b"if a=$(\"$1\"")])?;
-    put_words(alloc, out, th, test.datum.as_slice())?;
+    put_words(alloc, out, th, t.datum.as_slice())?;
     put(
         out,
         &[
@@ -81,7 +81,7 @@ fn put_test(alloc: Global, out: &mut Vec<u8>, th: &Theory, test: &Test) -> Resul
 /// Writes values, a quoted word each.
 #[tactic(auto, using(crate::proofs::HarnessLaws::writing))]
 fn put_words(alloc: Global, out: &mut Vec<u8>, th: &Theory, vs: &[Value]) -> Result<(), AllocError>
-    ensures { OnOk result (out.new.items ≡ out.old.items ++ words th.now (values vs.now)) }
+    ensures { OnOk result (out.new.items ≡ out.old.items ++ words th.now (map value vs.now)) }
 {
     for v in vs {
         let text = value_text(alloc, th, v)?;

@@ -1,6 +1,6 @@
 use Rattle.std.proofs.Common.{rules, ◌≡◌, ◌+◌, map, refl}
 use Rattle.std.proofs.lemmas.Option.{slice_get_read}
-use Rattle.tg_cmd.specs.Tests.{test}
+use Rattle.tg_harness.specs.Tests.{test}
 use Rattle.tg_cmd.proofs.TestLaws.{test_next}
 use Rattle.tg_cmd.proofs.judging.tests_of.Goals as goal
 

@@ -6,7 +6,7 @@ use Rattle.tg_verdict.specs.Places.{AreOnce, test_number, outcome_number}
 use Rattle.tg_verdict.specs.Records.{AreOutcomes, Stops}
 use Rattle.tg_cmd.specs.declared.output.Output as code
 use Rattle.tg_cmd.specs.Answers.{answer_after}
-use Rattle.tg_cmd.specs.Judging.{record_of}
+use Rattle.tg_harness.specs.Tests.{record_of}
 use Rattle.tg_cmd.specs.Output.{IsJudgement, IsOutcomeLine, OfOutcomes, unread, read}
 use Rattle.tg_cmd.proofs.DataLaws.{as_many}
 use Rattle.tg_cmd.proofs.Judgements.{test_numbers}
