@@ -2,6 +2,8 @@
 //! `tg_cmd::run`. Its answer is the exit status, and at faults and refusals one line on standard error.
 #![tactic(auto)]
 
+mod help;
+
 use std::alloc::AllocGlobal;
 use std::env::{self, Env};
 use std::io::{Eprint, ErrorKind};
@@ -39,13 +41,21 @@ fn words(rt: &(impl Env + AllocGlobal)) -> Result<Vec<Name>, Answer> {
 
 /// Says on standard error why there is no result. Where standard error can't be written, the exit
 /// status alone says so.
-fn explain(rt: &impl Eprint, answer: &Answer) {
+fn explain(rt: &(impl Eprint + AllocGlobal), answer: &Answer) {
     let _ = match answer {
         Answer::ReadFault => eprintln!(rt; "read fault"),
         Answer::WriteFault { written } => eprintln!(rt; "write fault after {written} bytes"),
         Answer::Memory => eprintln!(rt; "out of memory"),
         Answer::Refused(refusal) => eprintln!(rt; "{refusal}"),
         Answer::Limit(limit) => eprintln!(rt; "{limit}"),
-        Answer::Done | Answer::TestsFailed | Answer::Usage => Ok(()),
+        Answer::Usage => return advise(rt),
+        Answer::Done | Answer::TestsFailed => Ok(()),
     };
+}
+
+/// Prints the help on standard error.
+fn advise(rt: &(impl Eprint + AllocGlobal)) {
+    if let Ok(text) = help::render(rt.alloc()) {
+        let _ = eprint!(rt; "{text}");
+    }
 }
