@@ -8,8 +8,8 @@ PROGRAM is crates/testgen/out/testgen where none is named. A case is a folder of
 
 After them come cases that are made here: each front of a theory with the place of its fault, inputs of the greatest size and
 one byte more, theories that are accepted or refused (theories.py), long reports and those at each limit and past it (reports.py),
-each rewrite schema on a term to which it applies and on one close by (rewriting.py), and four texts with every kind of token in
-every place, whose faults viable.py tells.
+each rewrite schema on a term to which it applies and on one close by (rewriting.py), four texts with every kind of token in every
+place, whose faults viable.py tells, and programs that the harness runs (programs.py).
 
 The last line is 'N passed, N failed'; the exit status is 0 where none failed and some passed.
 """
@@ -19,6 +19,7 @@ import re
 import subprocess
 import sys
 
+import programs
 import reports
 import rewriting
 import theories
@@ -132,7 +133,8 @@ def main():
         print(f'no program stands at {program}: rt ci makes it\n0 passed, 1 failed')
         return 1
     cases = [(faults, case) for case in (*stored(), *cuts(), *sizes())]
-    for check, made in ((theory_faults, theories.cases()), (report_faults, reports.cases()), (form_faults, rewriting.cases()), (token_faults, tokens())):
+    for check, made in ((theory_faults, theories.cases()), (report_faults, reports.cases()), (form_faults, rewriting.cases()), (token_faults, tokens()),
+                        (programs.faults, programs.cases())):
         cases += [(check, case) for case in made]
     passed = failed = 0
     with concurrent.futures.ThreadPoolExecutor() as pool:

@@ -15,22 +15,18 @@ fn with_commands(alloc: Global) -> Result<Command<'static>, AllocError> {
         .override_usage("testgen COMMAND [OPTIONS] < INPUT > OUTPUT")
         .disable_help_flag(true)
         .disable_help_subcommand(true)
-        .subcommand(
-            Command::new(alloc, "generate")
-                .about("reads a theory: its classes, their data, and the test theorem"),
-        )?
-        .subcommand(
-            Command::new(alloc, "harness")
-                .about("reads a theory: a shell script that runs a program on the tests"),
-        )?
-        .subcommand(
-            Command::new(alloc, "judge")
-                .about("reads a theory and outcomes: the verdicts, and what they show"),
-        )?
-        .subcommand(
-            Command::new(alloc, "simulate NAME")
-                .about("reads a theory: the outcomes where its function NAME stands in"),
-        )
+        .subcommand(Command::new(alloc, "generate").about(
+            "reads a theory: its classes, their data, and the test theorem",
+        ))?
+        .subcommand(Command::new(alloc, "harness").about(
+            "reads a theory: a shell script that runs a program on the tests",
+        ))?
+        .subcommand(Command::new(alloc, "judge").about(
+            "reads a theory and outcomes: the verdicts, and what they show",
+        ))?
+        .subcommand(Command::new(alloc, "simulate NAME").about(
+            "reads a theory: the outcomes where its function NAME stands in",
+        ))
 }
 
 fn with_options<'a>(alloc: Global, command: Command<'a>) -> Result<Command<'a>, AllocError> {

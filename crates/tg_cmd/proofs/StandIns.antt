@@ -111,13 +111,16 @@ module _ (th : Theory) (n : ℕ) where
 
   pub fits_where_typed : IsTyped th th.program.inputs [] (call_of th n) th.program.answer → Fits
   fits_where_typed (leaf t, h, e) = absurd h
-  fits_where_typed (instanced us t ds, (x, at, each, answer, arguments, typed), e) =
-      (x, at, record {
-        types = us;
-        each = each;
-        inputs = sym arguments ∙ types_are th th.program.inputs 0 th.program.inputs (at_start th.program.inputs) ds typed;
-        answer = sym answer ∙ e;
-      })
+  fits_where_typed (instanced us t ds, (x, at, each, answer, arguments, typed), e) = (
+    x,
+    at,
+    record {
+      types = us;
+      each = each;
+      inputs = sym arguments ∙ types_are th th.program.inputs 0 th.program.inputs (at_start th.program.inputs) ds typed;
+      answer = sym answer ∙ e;
+    },
+  )
   fits_where_typed (typing.compound t ds, h, e) = absurd h
   fits_where_typed (typing.branching us t d arms, h, e) = absurd h
   fits_where_typed (typing.binding u t d f, h, e) = absurd h
@@ -133,16 +136,16 @@ module _ (th : Theory) (n : ℕ) where
 pub fits_exactly : (th : Theory) → IsAccepted th → (n : ℕ) (inputs : List declared.Ty) (answer : declared.Ty) (t : Tree) (yes : Bool) → map ty inputs ≡ th.program.inputs
     → ty answer ≡ th.program.answer → t ≡ call_of th n → (yes ≡ true) ↔ IsTypedAt th inputs t answer → (yes ≡ true) ↔ Fits th n
 fits_exactly th ok n inputs answer t b i a e h = (
-    λ y. fits_where_typed th n (subst (λ (x : Tree). IsTyped th th.program.inputs [] x th.program.answer) e
+  λ y. fits_where_typed th n (subst (λ (x : Tree). IsTyped th th.program.inputs [] x th.program.answer) e
       (subst (λ (u : Ty). IsTyped th th.program.inputs [] t u) a (subst (λ (us : List Ty). IsTyped th us [] t (ty answer)) i (h.0 y).typed))),
-    λ fits. h.1 (record {
-      variables = all_closed_declared th (tys (map ty inputs)) (subst (λ (us : List Ty). AreClosed th (tys us)) (sym i) ok.well_typed.inputs);
-      type = closed_declared th (ty answer) (subst (IsClosed th) (sym a) ok.well_typed.answer);
-      typed = subst (λ (us : List Ty). IsTyped th us [] t (ty answer)) (sym i)
+  λ fits. h.1 (record {
+    variables = all_closed_declared th (tys (map ty inputs)) (subst (λ (us : List Ty). AreClosed th (tys us)) (sym i) ok.well_typed.inputs);
+    type = closed_declared th (ty answer) (subst (IsClosed th) (sym a) ok.well_typed.answer);
+    typed = subst (λ (us : List Ty). IsTyped th us [] t (ty answer)) (sym i)
         (subst (λ (u : Ty). IsTyped th th.program.inputs [] t u) (sym a)
         (subst (λ (x : Tree). IsTyped th th.program.inputs [] x th.program.answer) (sym e) (typed_where_fits th n fits)));
-    }),
-  )
+  }),
+)
 
 -- one more variable
 pub one_variable_more : (n k : ℕ) → variables_from n (suc k) ≡ variables_from n k ++ free (n + k) ∷ []
@@ -182,10 +185,10 @@ module _ (th : Theory) (name : List ℕ) where
   none_next k g b other none at e wrong decides n low f h = elim (place_or_later n k low) [
     | inl l ↦ none n l f h
     | inr m ↦
-      let got : Some g ≡ Some f = sym at ∙ ap (numbered th.functions) (sym m) ∙ h.at in
-      let same : g ≡ f = cc got in
-      let bad : false ≡ true = sym wrong ∙ decides.1 (e ∙ ap name_of same ∙ h.named) in
-      absurd cc
+        let got : Some g ≡ Some f = sym at ∙ ap (numbered th.functions) (sym m) ∙ h.at in
+        let same : g ≡ f = cc got in
+        let bad : false ≡ true = sym wrong ∙ decides.1 (e ∙ ap name_of same ∙ h.named) in
+        absurd cc
   ]
 
   pub none_at_all : (k : ℕ) → NoneUpTo k → length th.functions ≤ k → (n : ℕ) (f : Function) → IsNamed th name n f → ⊥

@@ -18,6 +18,8 @@ mod report;
 mod request;
 mod standing;
 #[cfg(test)]
+mod standing_tests;
+#[cfg(test)]
 mod tests;
 mod top;
 

@@ -1,0 +1,3 @@
+#!/bin/sh
+# Ends with an error.
+exit 3

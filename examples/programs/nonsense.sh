@@ -1,0 +1,3 @@
+#!/bin/sh
+# Answers what is no value of the theory.
+echo three

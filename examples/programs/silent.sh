@@ -1,0 +1,3 @@
+#!/bin/sh
+# Answers nothing.
+exit 0
