@@ -13,10 +13,11 @@ use std::alloc::Global;
 use tg_io::{Sink, Source, WriteErr, write_all};
 use tg_types::Name;
 
-/// One run of the program: reads what `source` gives, a theory for the word `generate`, and a theory and
-/// recorded outcomes for `judge`, and writes its report to `sink`. The words after the command are its
-/// options, each at most once: `--depth` 1 to 8, `--bound` to 20,000, `--seed` below 2^64, `--tries` to
-/// 100,000 and `--width` 1 to 32, with a number behind it.
+/// One run of the program: reads what `source` gives, a theory, for `judge` with recorded outcomes behind it, and writes
+/// the result to `sink`: for `generate` and `judge` the report, for `harness` the script that runs a program on the tests,
+/// and for `simulate` with a name the outcomes where the function of that name stands in as the program. The words behind
+/// are options, each at most once: `--depth` 1 to 8, `--bound` to 20,000, `--seed` below 2^64, `--tries` to 100,000 and
+/// `--width` 1 to 32, with a number behind it.
 ///
 /// `Usage` comes exactly where the words aren't such words, and then nothing is read or written.
 /// `ReadFault` comes only where the source's count of faults rose in this call, `WriteFault` only where the
@@ -26,10 +27,11 @@ use tg_types::Name;
 /// `Refused(Form)` where they are no text of the grammar; else the first fault of the theory's declarations;
 /// else the first limit that is passed in making the classes; else, for `judge`, `Refused(Settings)` where the
 /// outcomes state other settings, or the fault of the first record that has one, as `Refused(Unknown)`,
-/// `Refused(Repeated)` or `Refused(BadAnswer)`. At each of these one line is written. Else the report is
-/// written, and the answer is `TestsFailed` exactly where `judge` gives the verdict `failed`, else `Done`.
-/// The whole input is read before anything is written. `Memory` may come in place of any result before that,
-/// and then neither count of faults rose.
+/// `Refused(Repeated)` or `Refused(BadAnswer)`, and for `simulate` `Refused(StandIn)` where no function of the
+/// name has the program's type. At each of these one line is written. Else the result is written, and the
+/// answer is `TestsFailed` exactly where `judge` gives the verdict `failed`, else `Done`. The whole input is
+/// read before anything is written. `Memory` may come in place of any result before that, and then neither
+/// count of faults rose.
 ///
 /// The theorem that is printed is true on every table, and each uniformity, open class and regularity that is
 /// printed is true on every table where the specification is. Where `judge` has answered `Done` or
