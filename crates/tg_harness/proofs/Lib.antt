@@ -2,3 +2,4 @@ pub mod HarnessLaws
 pub mod KnownTexts
 mod Lists
 pub mod OutcomeLaws
+pub mod OutcomeReading

@@ -1,3 +1,4 @@
 pub mod Tests
 pub mod OutcomeTexts
 pub mod HarnessTexts
+pub mod ReadBack

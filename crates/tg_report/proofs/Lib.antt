@@ -8,9 +8,9 @@ mod FormulaLaws
 mod ClassLaws
 mod KnownTexts
 mod NameWords
-mod ProperTokens
+pub mod ProperTokens
 mod TypeReading
-mod ValueReading
+pub mod ValueReading
 mod TermShapes
 mod BinderShapes
 mod TermReading
