@@ -1,1 +1,4 @@
 pub mod ComparingLaws
+pub mod HypothesesLaws
+pub mod ContextLaws
+pub mod UsingLaws

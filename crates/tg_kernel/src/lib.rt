@@ -2,6 +2,11 @@
 #![tactic(auto)]
 
 mod comparing;
+mod contexts;
+mod hypotheses;
 mod sequents;
+mod using;
 
+pub use contexts::Context;
+pub use hypotheses::Hypotheses;
 pub use sequents::Sequent;
