@@ -2,3 +2,4 @@ pub mod ComparingLaws
 pub mod HypothesesLaws
 pub mod ContextLaws
 pub mod UsingLaws
+pub mod FormulaLaws

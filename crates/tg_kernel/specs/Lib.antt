@@ -1,3 +1,5 @@
 pub mod Code
 pub mod Comparing
 pub mod Sequents
+pub mod Rules
+pub mod Drafts

@@ -1,12 +1,18 @@
 //! What the calculus derives, as the program holds it. The rules are those of `tg_calculus`.
 #![tactic(auto)]
 
+mod assumptions;
 mod comparing;
+mod connectives;
 mod contexts;
+mod drafts;
+mod formulas;
 mod hypotheses;
+mod rules;
 mod sequents;
 mod using;
 
 pub use contexts::Context;
 pub use hypotheses::Hypotheses;
+pub use rules::{Rule, RuleLine};
 pub use sequents::Sequent;
