@@ -3,3 +3,5 @@ pub mod HypothesesLaws
 pub mod ContextLaws
 pub mod UsingLaws
 pub mod FormulaLaws
+pub mod ReplacingLaws
+pub mod TermLaws

@@ -1,5 +1,5 @@
 //! The types of variables.
-ghost use Rattle.std.specs.Prelude.{◌≡◌, ◌++◌, IfOk, OnOk, length, map, option_map};
+ghost use Rattle.std.specs.Prelude.{◌≡◌, ◌++◌, [], IfOk, OnOk, length, map, option_map};
 ghost use Rattle.tg_calculus.specs.Draft.{same_context, without_last};
 ghost use Rattle.tg_types.specs.Types.{ty};
 
@@ -39,6 +39,13 @@ impl Context {
         Ok(Context {
             types: Rc::new(alloc, types)?,
         })
+    }
+
+    /// The context of no variable.
+    pub(crate) fn empty(alloc: Global) -> Result<Context, AllocError>
+        ensures { IfOk result (λ c. c ≡ []) }
+    {
+        Context::new(alloc, Items::new(alloc))
     }
 
     /// The types.

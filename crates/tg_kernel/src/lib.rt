@@ -8,8 +8,11 @@ mod contexts;
 mod drafts;
 mod formulas;
 mod hypotheses;
+mod quantifiers;
+mod replacing;
 mod rules;
 mod sequents;
+mod terms;
 mod using;
 
 pub use contexts::Context;

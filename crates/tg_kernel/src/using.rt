@@ -1,6 +1,6 @@
 //! Which variables stand in formulas. No call takes memory.
 ghost use Rattle.std.specs.Prelude.{◌≡◌, ◌+◌, IfOk, map};
-ghost use Rattle.tg_calculus.specs.Sequent.{uses_new, some_use_new, uses_from};
+ghost use Rattle.tg_calculus.specs.Sequent.{next, uses_new, some_use_new, uses_from};
 ghost use Rattle.tg_model.specs.Tree.{trees};
 ghost use Rattle.tg_model.specs.Uses.{use_any, uses_in_formula};
 ghost use Rattle.tg_types.specs.Types.{ty};
@@ -45,6 +45,13 @@ fn uses_from(first: usize, new: &[Ty], f: &Formula) -> Result<bool, AllocError>
         }
     }
     Ok(false)
+}
+
+/// The number of the first variable past the context.
+pub(crate) fn next(context: &Context) -> Result<u32, AllocError>
+    ensures { IfOk result (λ n. n ≡ next context.now) }
+{
+    variable(context.len(), 1)
 }
 
 /// The number of a variable.
