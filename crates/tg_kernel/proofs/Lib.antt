@@ -5,3 +5,7 @@ pub mod UsingLaws
 pub mod FormulaLaws
 pub mod ReplacingLaws
 pub mod TermLaws
+pub mod ArgumentLaws
+pub mod ChainLaws
+pub mod CaseLaws
+pub mod DataLaws

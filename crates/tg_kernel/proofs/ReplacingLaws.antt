@@ -41,4 +41,11 @@ module _ (s t : Tree) where
   pub other_operator : (o p : ℕ) (us vs : Trees) → o ≢ p → false ≡ below s t (op (operator o) us) (op (operator p) vs)
   other_operator o p us vs n = ap (λ b. b && all_replace s t us vs) (sym (rows.other_numbers o p (λ e. n (sym e))))
 
+pub not_equal : (m n : ℕ) → m ≢ n → nat_eq m n ≡ false
+not_equal m n h = by (nat_eq m n) (λ e. h (eqb-true m n e))
+  where
+    by : (b : Bool) → ¬ (b ≡ true) → b ≡ false
+    by true k = absurd (k refl)
+    by false k = refl
+
 pub ruleset replacing = (uneven, uneven_arms, one_operator, other_operator, height_at, branch_height_at)

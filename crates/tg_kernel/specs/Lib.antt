@@ -3,3 +3,4 @@ pub mod Comparing
 pub mod Sequents
 pub mod Rules
 pub mod Drafts
+pub mod Arguments

@@ -1,5 +1,5 @@
 //! The types of variables.
-ghost use Rattle.std.specs.Prelude.{◌≡◌, ◌++◌, [], IfOk, OnOk, length, map, option_map};
+ghost use Rattle.std.specs.Prelude.{◌≡◌, ◌++◌, ◌-◌, [], IfOk, OnOk, length, map, option_map, take};
 ghost use Rattle.tg_calculus.specs.Draft.{same_context, without_last};
 ghost use Rattle.tg_types.specs.Types.{ty};
 
@@ -77,6 +77,17 @@ impl Context {
         ensures { result ≡ same_context self.now other.now }
     {
         same_types(self.types(), other.types())
+    }
+
+    /// The context without so many variables at its end.
+    #[tactic(auto, using(crate::proofs::ContextLaws::shorter))]
+    pub(crate) fn shortened(&self, alloc: Global, by: usize) -> Result<Context, AllocError>
+        ensures { IfOk result (λ c. c ≡ take (length self.now - by) self.now) }
+    {
+        let types = self.types();
+        let mut kept = Items::new(alloc);
+        add_copies(alloc, &mut kept, &types[..types.len().saturating_sub(by)])?;
+        Context::new(alloc, kept)
     }
 
     /// The context with further variables.

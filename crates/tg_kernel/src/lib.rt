@@ -2,9 +2,13 @@
 #![tactic(auto)]
 
 mod assumptions;
+mod cases;
+mod chains;
 mod comparing;
 mod connectives;
+mod constructors;
 mod contexts;
+mod data;
 mod drafts;
 mod formulas;
 mod hypotheses;

@@ -54,8 +54,8 @@ pub(crate) fn next(context: &Context) -> Result<u32, AllocError>
     variable(context.len(), 1)
 }
 
-/// The number of a variable.
-fn variable(first: usize, past: usize) -> Result<u32, AllocError>
+/// The number that is so much past the first. The error comes only where it would be 2^32 or more.
+pub(crate) fn variable(first: usize, past: usize) -> Result<u32, AllocError>
     ensures { IfOk result (λ n. n ≡ first + past) }
 {
     let Some(number) = first.checked_add(past) else {
