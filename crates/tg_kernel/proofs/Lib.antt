@@ -9,3 +9,6 @@ pub mod ArgumentLaws
 pub mod ChainLaws
 pub mod CaseLaws
 pub mod DataLaws
+pub mod AskedLaws
+pub mod DraftingLaws
+pub mod BookLaws

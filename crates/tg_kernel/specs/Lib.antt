@@ -4,3 +4,7 @@ pub mod Sequents
 pub mod Rules
 pub mod Drafts
 pub mod Arguments
+pub mod Asked
+pub mod Books
+pub mod BookCode
+pub mod Entries

@@ -1,4 +1,7 @@
 //! The rules as they are written in a line.
+ghost use Rattle.std.specs.Prelude.{◌≡◌};
+ghost use Rattle.tg_kernel.specs.Books.{rule_number};
+ghost use Rattle.tg_kernel.specs.Rules.{as_rule};
 
 use crate::contexts::Context;
 use sqlite_items::Items;
@@ -60,6 +63,42 @@ pub enum Rule {
     Deep(Context, u64, Items<Term>),
     /// The term computes to True.
     Compute(Context, Term),
+}
+
+impl Rule {
+    /// The rule's number in the order of the calculus, from 1.
+    pub fn number(&self) -> u32
+        ensures { result ≡ rule_number (as_rule self.now) }
+    {
+        match self {
+            Rule::Hyp(_, _) => 1,
+            Rule::Weak(_) => 2,
+            Rule::Cut => 3,
+            Rule::Grow(_) => 4,
+            Rule::AndI => 5,
+            Rule::AndL => 6,
+            Rule::AndR => 7,
+            Rule::ImpI(_) => 8,
+            Rule::Mp => 9,
+            Rule::AllI => 10,
+            Rule::AllE(_) => 11,
+            Rule::ExI(_, _) => 12,
+            Rule::ExE => 13,
+            Rule::ThypI => 14,
+            Rule::ThypE => 15,
+            Rule::Truth(_) => 16,
+            Rule::Absurd(_) => 17,
+            Rule::Split(_) => 18,
+            Rule::Refl(_, _) => 19,
+            Rule::Sym => 20,
+            Rule::Trans => 21,
+            Rule::Replace(_) => 22,
+            Rule::Schema(_, _, _) => 23,
+            Rule::Exhaust(_) => 24,
+            Rule::Deep(_, _, _) => 25,
+            Rule::Compute(_, _) => 26,
+        }
+    }
 }
 
 /// What a line of a book says.
