@@ -23,7 +23,7 @@ use Rattle.tg_kernel.specs.Asked.{IsAsked}
 use Rattle.tg_kernel.specs.Drafts as drafts
 use Rattle.tg_kernel.specs.Drafts.{drafted, made, needs}
 use Rattle.tg_kernel.specs.declared.drafts.Draft.{Draft}
-use Rattle.tg_kernel.specs.Books.{IsAppended}
+use Rattle.tg_kernel.specs.Books.{Book, IsAppended, IsNone, CanStep}
 use Rattle.tg_kernel.specs.Entries.{entry, book_of, Concludes}
 use Rattle.tg_kernel.specs.Rules.{as_line}
 use Rattle.tg_kernel.specs.Sequents.{sequent}
@@ -191,3 +191,8 @@ appended_is th es new e n i g m = record {
   appended = ap (book_of th) g ∙ (λ j. record { theory = th; entries = map-append entry es (e ∷ []) j });
   number = m ∙ ap length g ∙ one_longer es e;
 }
+
+pub never : (b : Book) (l : Line) → CanStep b l → IsNone b l → ⊥
+never b l p n = n p.0 p.1
+
+pub ruleset stepping = (never)

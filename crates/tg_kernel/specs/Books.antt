@@ -63,3 +63,11 @@ rule_number (calculus.schema G k t) = 23
 rule_number (calculus.exhaust n) = 24
 rule_number (calculus.deep G k ts) = 25
 rule_number (calculus.compute G t) = 26
+
+-- the line of a rule at premises
+abbrev pub by : Rule → List ℕ → Line
+by r ns = record { rule = r; premises = ns }
+
+-- the line is an instance of its rule on the lines of the book
+abbrev pub CanStep : Book → Line → Type 0
+CanStep b l = (s : Sequent) × IsInstance b.theory (sequents b.entries) l s

@@ -42,3 +42,6 @@ Appends old new l t = IsAppended old new l (number t)
 abbrev pub Refuses : Book → Line → StepErr → Type 0
 Refuses b l (Bad r) = (r ≡ rule_number l.rule) × IsNone b l
 Refuses b l Memory = Unit {0}
+
+abbrev pub numbers : List Thm → List ℕ
+numbers ts = map number ts

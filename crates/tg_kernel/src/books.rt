@@ -1,17 +1,18 @@
 //! Books.
 ghost use Rattle.std.specs.Prelude.{◌≡◌, ◌≤◌, ◌∷◌, ◌++◌, [], IfOk, IfErr, OnOk, OnErr, Some, length};
 ghost use Rattle.tg_calculus.specs.Derivation.{Derives};
-ghost use Rattle.tg_kernel.specs.Books.{IsTrueEverywhere};
-ghost use Rattle.tg_kernel.specs.Entries.{Appends, Refuses, IsThere, line_of, sequent_of};
-ghost use Rattle.tg_kernel.specs.Rules.{as_line};
+ghost use Rattle.tg_kernel.specs.Books.{IsTrueEverywhere, CanStep, by};
+ghost use Rattle.tg_kernel.specs.Entries.{Appends, Refuses, IsThere, line_of, number, numbers, sequent_of};
+ghost use Rattle.tg_kernel.specs.Rules.{as_line, as_rule};
 ghost use Rattle.tg_kernel.specs.Sequents.{sequent};
 ghost use Rattle.tg_model.specs.Theory.{numbered};
 
 use crate::concluding::{Entry, conclude, numbered_entry};
 use crate::errors::StepErr;
-use crate::rules::RuleLine;
+use crate::rules::{Rule, RuleLine};
 use crate::sequents::Sequent;
 use crate::theorems::Thm;
+use sqlite_items::Items;
 use std::alloc::{AllocError, Global};
 use std::marker::Model;
 use tg_theory::Theory;
@@ -106,6 +107,73 @@ impl<'a> Book<'a> {
             }),
         }
     }
+
+    /// Appends the line of a rule without premises.
+    pub(crate) fn by_none(&mut self, rule: Rule) -> Result<Thm, AllocError>
+        requires { CanStep self.old (by (as_rule rule) []) }
+        ensures ok { IfOk result (Appends self.old self.new (by (as_rule rule) [])) }
+        ensures kept { OnErr result (self.new ≡ self.old) }
+    {
+        let premises = Items::new(self.alloc);
+        self.step(RuleLine { rule, premises })
+    }
+
+    /// Appends the line of a rule with one premise.
+    pub(crate) fn by_one(&mut self, rule: Rule, i: Thm) -> Result<Thm, AllocError>
+        requires { CanStep self.old (by (as_rule rule) (number i ∷ [])) }
+        ensures ok { IfOk result (Appends self.old self.new (by (as_rule rule) (number i ∷ []))) }
+        ensures kept { OnErr result (self.new ≡ self.old) }
+    {
+        let mut premises = Items::new(self.alloc);
+        premises.push(i.0)?;
+        self.step(RuleLine { rule, premises })
+    }
+
+    /// Appends the line of a rule with two premises.
+    pub(crate) fn by_two(&mut self, rule: Rule, i: Thm, j: Thm) -> Result<Thm, AllocError>
+        requires { CanStep self.old (by (as_rule rule) (number i ∷ number j ∷ [])) }
+        ensures ok { IfOk result (Appends self.old self.new (by (as_rule rule) (number i ∷ number j ∷ []))) }
+        ensures kept { OnErr result (self.new ≡ self.old) }
+    {
+        let mut premises = Items::new(self.alloc);
+        premises.push(i.0)?;
+        premises.push(j.0)?;
+        self.step(RuleLine { rule, premises })
+    }
+
+    /// Appends the line of a rule with any premises.
+    pub(crate) fn by_all(&mut self, rule: Rule, lines: &[Thm]) -> Result<Thm, AllocError>
+        requires { CanStep self.old (by (as_rule rule) (numbers lines.now)) }
+        ensures ok { IfOk result (Appends self.old self.new (by (as_rule rule) (numbers lines.now))) }
+        ensures kept { OnErr result (self.new ≡ self.old) }
+    {
+        let premises = line_numbers(self.alloc, lines)?;
+        self.step(RuleLine { rule, premises })
+    }
+
+    /// Appends the line, which is an instance of its rule.
+    #[tactic(auto, using(crate::proofs::BookLaws::stepping))]
+    fn step(&mut self, line: RuleLine) -> Result<Thm, AllocError>
+        requires { CanStep self.old (as_line line) }
+        ensures ok { IfOk result (Appends self.old self.new (as_line line)) }
+        ensures kept { OnErr result (self.new ≡ self.old) }
+    {
+        match self.try_step(line) {
+            Ok(t) => Ok(t),
+            Err(StepErr::Memory) => Err(AllocError),
+            Err(StepErr::Bad { .. }) => unreachable!(),
+        }
+    }
+}
+
+fn line_numbers(alloc: Global, lines: &[Thm]) -> Result<Items<u64>, AllocError>
+    ensures { IfOk result (λ ns. ns ≡ numbers lines.now) }
+{
+    let mut premises = Items::new(alloc);
+    for t in lines {
+        premises.push(t.0)?;
+    }
+    Ok(premises)
 }
 
 #[tactic(auto, using(crate::proofs::BookLaws::standing))]

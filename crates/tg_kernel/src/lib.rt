@@ -21,6 +21,7 @@ mod quantifiers;
 mod replacing;
 mod rules;
 mod sequents;
+mod steps;
 mod terms;
 mod theorems;
 mod using;
