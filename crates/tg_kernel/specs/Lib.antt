@@ -1,1 +1,10 @@
+pub mod Code
+pub mod Comparing
 pub mod Sequents
+pub mod Rules
+pub mod Drafts
+pub mod Arguments
+pub mod Asked
+pub mod Books
+pub mod BookCode
+pub mod Entries

@@ -1,0 +1,14 @@
+pub mod ComparingLaws
+pub mod HypothesesLaws
+pub mod ContextLaws
+pub mod UsingLaws
+pub mod FormulaLaws
+pub mod ReplacingLaws
+pub mod TermLaws
+pub mod ArgumentLaws
+pub mod ChainLaws
+pub mod CaseLaws
+pub mod DataLaws
+pub mod AskedLaws
+pub mod DraftingLaws
+pub mod BookLaws
