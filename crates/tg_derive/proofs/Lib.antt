@@ -10,3 +10,5 @@ pub mod ClassInputs
 pub mod TheoremLaws
 pub mod HypothesisLaws
 pub mod KnownClasses
+pub mod Equations
+pub mod NormalLines
