@@ -5,8 +5,7 @@ use Rattle.tg_model.specs.Tree.{Tree, Trees, op, equality}
 use Rattle.tg_model.specs.Types.{Ty, bool}
 use Rattle.tg_model.specs.Theory.{Theory}
 use Rattle.tg_model.specs.Typing.{AreTyped, least}
-use Rattle.tg_model.specs.TermTyping.{Typings, compound, none, more, types_of, type_of, IsTyped, AllTyped, AreTypings}
-use Rattle.tg_model.specs.WellTyped.{IsWellTyped}
+use Rattle.tg_model.specs.TermTyping.{Typings, compound, none, more, types_of, AllTyped, AreTypings}
 use Rattle.tg_model.specs.Accepted.{IsAccepted}
 use Rattle.tg_model.proofs.Constructors.{least_has_its_type}
 use Rattle.tg_rows.specs.Laws.{Setting}
@@ -17,17 +16,17 @@ use Rattle.tg_calculus.specs.Replacement as by
 use Rattle.tg_calculus.specs.Replacement.{Replaced, AllReplaced, FormulaReplaced}
 use Rattle.tg_calculus.specs.Step.{IsContext, IsFormula, IsTerm}
 use Rattle.tg_calculus.specs.Theorem.{Follows}
-use Rattle.tg_calculus.proofs.DerivedRules.{replacing, turned, chained, by_row, itself}
+use Rattle.tg_calculus.proofs.DerivedRules.{replacing, chained, by_row, itself}
 
 pub equated : (th : Theory) (G : Context) (t u : Tree) (T : Ty) → IsTerm th G t T → IsTerm th G u T → IsFormula th G (equation t u)
 equated th G t u T (d, h, e) (d', h', e') = (compound bool (more d (more d' none)), (((T, λ i. e i ∷ e' i ∷ []), refl), (h, (h', tt))), refl)
 
-least_values : (th : Theory) → IsAccepted th → (G : Context) → IsContext th G → AreTyped th (map (least th) G) G
+pub least_values : (th : Theory) → IsAccepted th → (G : Context) → IsContext th G → AreTyped th (map (least th) G) G
 least_values th accepted [] h = tt
 least_values th accepted (T ∷ G) h = (least_has_its_type th accepted.well_typed T h.0, least_values th accepted G h.1)
 
 -- some values of a context's types
-pub some_setting : (th : Theory) → IsAccepted th → (G : Context) → IsContext th G → Setting th
+abbrev pub some_setting : (th : Theory) → IsAccepted th → (G : Context) → IsContext th G → Setting th
 some_setting th accepted G closed = record {
   table = [];
   is_table = tt;
@@ -43,7 +42,6 @@ some_setting th accepted G closed = record {
 
 pub row_typed : (th : Theory) → IsAccepted th → (G : Context) → IsContext th G → (k : ℕ) (t u : Tree) (T : Ty) → row th k t ≡ Some u → IsTerm th G t T
     → IsTerm th G u T
-unfolding some_setting
 row_typed th accepted G closed k t u T e typed = (rows_keep th accepted.well_typed (some_setting th accepted G closed) k t u T e typed).1
 
 pub all_kept : (s r : Tree) (ts : Trees) → AllReplaced s r ts ts

@@ -12,3 +12,8 @@ pub mod HypothesisLaws
 pub mod KnownClasses
 pub mod Equations
 pub mod NormalLines
+pub mod TruthLines
+pub mod ClauseLines
+pub mod MinimalParts
+pub mod ClassLines
+pub mod PatternLines

@@ -4,7 +4,7 @@ use Rattle.tg_model.specs.Tree as tree
 use Rattle.tg_model.specs.Tree.{Tree, Trees, Arms, Operator, bound, free, literal, truth, con, call, put, choice, case, bind, op}
 use Rattle.tg_model.specs.Types.{Ty}
 use Rattle.tg_model.specs.Theory.{Theory}
-use Rattle.tg_model.specs.TermTyping.{Typing, leaf, instanced, compound, branching, binding, none, more, type_of, types_of, IsTyping, AllTyped, IsOperation}
+use Rattle.tg_model.specs.TermTyping.{Typing, instanced, compound, branching, binding, none, more, type_of, types_of, IsTyping, AllTyped, IsOperation}
 use Rattle.tg_model.specs.Accepted.{IsAccepted}
 use Rattle.tg_norm.specs.Normal.{Walked, Parted, Norm, at_leaf, at_end, at_step, AllNorm, at_none, at_more, rebuilt, arguments}
 use Rattle.tg_norm.specs.Splits.{IsForm}

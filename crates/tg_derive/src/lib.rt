@@ -10,7 +10,7 @@ mod theorems;
 mod working;
 
 ghost use Rattle.tg_derive.specs.Laws.{IsOneAnswer, ClassesAreOfTrees, ClassesCover, ClassesAreTyped, ConstraintsHaveNoCall, CallsAreAtInputs, TheoremIsTrue, AssumptionsAreNecessary};
-ghost use Rattle.tg_derive.specs.Derivability.{NormalFormsAreDerivable};
+ghost use Rattle.tg_derive.specs.Derivability.{NormalFormsAreDerivable, PatternsAreDerivable};
 
 pub use errors::LimitErr;
 pub use listing::classes;
@@ -40,7 +40,9 @@ pub fn truth()
     ensures necessary { AssumptionsAreNecessary }
 {}
 
-/// What the 26 rules derive: a typed term equals its normal form, without hypotheses.
+/// What the 26 rules derive: a typed term equals its normal form, without hypotheses, and at a pattern the specification
+/// follows from what the pattern's classes say.
 pub fn provability()
     ensures forms { NormalFormsAreDerivable }
+    ensures patterns { PatternsAreDerivable }
 {}
