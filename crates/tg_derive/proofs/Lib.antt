@@ -17,3 +17,8 @@ pub mod ClauseLines
 pub mod MinimalParts
 pub mod ClassLines
 pub mod PatternLines
+pub mod WalkLaws
+pub mod Quantifiers
+pub mod Instances
+pub mod OpenClasses
+pub mod TestedClasses

@@ -1,20 +1,30 @@
 -- What the calculus derives of normal forms and of classes.
-use Rattle.std.specs.Prelude.{List, [], map}
+use Rattle.std.specs.Prelude.{ℕ, true, false, ◌≡◌, List, [], map, Some, None}
 use Rattle.tg_model.specs.Tree.{Tree}
 use Rattle.tg_model.specs.Types.{Ty}
 use Rattle.tg_model.specs.Formula.{Formula, atom, implies, tested}
 use Rattle.tg_model.specs.Theory.{Theory}
+use Rattle.tg_model.specs.Typing.{AreTyped}
+use Rattle.tg_model.specs.Walk.{substituted}
+use Rattle.tg_model.specs.Closing.{universal_closure}
+use Rattle.tg_model.specs.Calls.{has_call}
 use Rattle.tg_model.specs.Accepted.{IsAccepted}
+use Rattle.tg_accept.specs.Checks.{Each}
 use Rattle.tg_norm.specs.Splits.{IsForm}
 use Rattle.tg_split.specs.Patterns.{Pattern}
 use Rattle.tg_split.specs.Laws.{IsPatternOf}
-use Rattle.tg_hyps.specs.Hypotheses.{Class, if_all, checked}
-use Rattle.tg_calculus.specs.Sequent.{Context, ◌│◌⊢◌, equation}
-use Rattle.tg_calculus.specs.Step.{IsContext, IsTerm}
+use Rattle.tg_hyps.specs.Hypotheses.{Class, if_all, checked, open_class_of}
+use Rattle.tg_hyps.specs.Written.{term_of}
+use Rattle.tg_hyps.specs.Meaning.{IsClassOf}
+use Rattle.tg_calculus.specs.Sequent as sequent
+use Rattle.tg_calculus.specs.Sequent.{Context, Hypotheses, ◌│◌⊢◌, equation}
+use Rattle.tg_calculus.specs.Computing.{computes}
+use Rattle.tg_calculus.specs.Step.{IsContext, IsFormula, IsTerm}
 use Rattle.tg_calculus.specs.Derivation.{Derives}
 use Rattle.tg_calculus.specs.Theorem.{IsTheorem}
 use Rattle.tg_derive.specs.Goals.{start}
 use Rattle.tg_derive.specs.Trees.{AreClassesAt}
+use Rattle.tg_derive.specs.Theorem.{Choice, of_class, formulas}
 
 -- In an accepted theory a typed term equals its normal form, without hypotheses.
 abbrev pub NormalFormsAreDerivable : Type 0
@@ -29,3 +39,19 @@ class_formula c = implies (tested c.inputs) (if_all c.constraints (checked c))
 abbrev pub PatternsAreDerivable : Type 0
 PatternsAreDerivable = (th : Theory) (p : Pattern) (cs : List Class) → IsAccepted th → IsPatternOf th th.program.inputs p → AreClassesAt th p cs
     → IsTheorem th p.variables (map class_formula cs) (implies (tested p.terms) (atom (start th p).term))
+
+-- From hypotheses that give each class of a pattern, the specification follows at all values of the pattern's variables.
+abbrev pub ClosedPatternsAreDerivable : Type 0
+ClosedPatternsAreDerivable = (th : Theory) (p : Pattern) (cs : List Class) (H : Hypotheses) → IsAccepted th → IsPatternOf th th.program.inputs p
+    → AreClassesAt th p cs → sequent.Each (IsFormula th []) H → Each (λ c. IsTheorem th [] H (open_class_of c)) cs
+    → IsTheorem th [] H (universal_closure p.variables (implies (tested p.terms) (atom (start th p).term)))
+
+-- where a class is tested, its constraints compute to True with the values' terms put in
+abbrev pub IsComputed : Theory → Class → Choice → Type 0
+IsComputed th c (Some vs) = AreTyped th vs c.variables × Each (λ t. computes th (substituted (map term_of vs) t) ≡ true) c.constraints
+IsComputed th c None = Unit {0}
+
+-- A class follows from its test and its uniformity, or from its open class.
+abbrev pub ClassesAreDerivable : Type 0
+ClassesAreDerivable = (th : Theory) (n : ℕ) (c : Class) (x : Choice) → IsAccepted th → IsClassOf th c → Each (λ t. has_call t ≡ false) c.constraints
+    → IsComputed th c x → IsTheorem th [] (formulas (of_class n c x)) (open_class_of c)

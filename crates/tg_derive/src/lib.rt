@@ -10,7 +10,7 @@ mod theorems;
 mod working;
 
 ghost use Rattle.tg_derive.specs.Laws.{IsOneAnswer, ClassesAreOfTrees, ClassesCover, ClassesAreTyped, ConstraintsHaveNoCall, CallsAreAtInputs, TheoremIsTrue, AssumptionsAreNecessary};
-ghost use Rattle.tg_derive.specs.Derivability.{NormalFormsAreDerivable, PatternsAreDerivable};
+ghost use Rattle.tg_derive.specs.Derivability.{NormalFormsAreDerivable, ClassesAreDerivable, PatternsAreDerivable, ClosedPatternsAreDerivable};
 
 pub use errors::LimitErr;
 pub use listing::classes;
@@ -40,9 +40,12 @@ pub fn truth()
     ensures necessary { AssumptionsAreNecessary }
 {}
 
-/// What the 26 rules derive: a typed term equals its normal form, without hypotheses, and at a pattern the specification
-/// follows from what the pattern's classes say.
+/// What the 26 rules derive: a typed term equals its normal form; a class follows from its test and its uniformity, or from
+/// its open class; at a pattern the specification follows from what the pattern's classes say, and so it does at all values
+/// of the pattern's variables.
 pub fn provability()
     ensures forms { NormalFormsAreDerivable }
-    ensures patterns { PatternsAreDerivable }
+    ensures classes { ClassesAreDerivable }
+    ensures leaves { PatternsAreDerivable }
+    ensures patterns { ClosedPatternsAreDerivable }
 {}
