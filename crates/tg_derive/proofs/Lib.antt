@@ -22,3 +22,4 @@ pub mod Quantifiers
 pub mod Instances
 pub mod OpenClasses
 pub mod TestedClasses
+pub mod TheoremLines

@@ -1,5 +1,5 @@
 -- What the calculus derives of normal forms and of classes.
-use Rattle.std.specs.Prelude.{ℕ, true, false, ◌≡◌, List, [], map, Some, None}
+use Rattle.std.specs.Prelude.{ℕ, true, false, ◌≡◌, List, [], ◌∷◌, map, Some, None}
 use Rattle.tg_model.specs.Tree.{Tree}
 use Rattle.tg_model.specs.Types.{Ty}
 use Rattle.tg_model.specs.Formula.{Formula, atom, implies, tested}
@@ -11,8 +11,8 @@ use Rattle.tg_model.specs.Calls.{has_call}
 use Rattle.tg_model.specs.Accepted.{IsAccepted}
 use Rattle.tg_accept.specs.Checks.{Each}
 use Rattle.tg_norm.specs.Splits.{IsForm}
-use Rattle.tg_split.specs.Patterns.{Pattern}
-use Rattle.tg_split.specs.Laws.{IsPatternOf}
+use Rattle.tg_split.specs.Patterns.{Pattern, patterns}
+use Rattle.tg_split.specs.Laws.{AllOf, IsPatternOf}
 use Rattle.tg_hyps.specs.Hypotheses.{Class, if_all, checked, open_class_of}
 use Rattle.tg_hyps.specs.Written.{term_of}
 use Rattle.tg_hyps.specs.Meaning.{IsClassOf}
@@ -23,8 +23,9 @@ use Rattle.tg_calculus.specs.Step.{IsContext, IsFormula, IsTerm}
 use Rattle.tg_calculus.specs.Derivation.{Derives}
 use Rattle.tg_calculus.specs.Theorem.{IsTheorem}
 use Rattle.tg_derive.specs.Goals.{start}
+use Rattle.tg_derive.specs.Classes.{AreClasses}
 use Rattle.tg_derive.specs.Trees.{AreClassesAt}
-use Rattle.tg_derive.specs.Theorem.{Choice, of_class, formulas}
+use Rattle.tg_derive.specs.Theorem.{Choice, of_class, hypotheses_of, formulas}
 
 -- In an accepted theory a typed term equals its normal form, without hypotheses.
 abbrev pub NormalFormsAreDerivable : Type 0
@@ -55,3 +56,15 @@ IsComputed th c None = Unit {0}
 abbrev pub ClassesAreDerivable : Type 0
 ClassesAreDerivable = (th : Theory) (n : ℕ) (c : Class) (x : Choice) → IsAccepted th → IsClassOf th c → Each (λ t. has_call t ≡ false) c.constraints
     → IsComputed th c x → IsTheorem th [] (formulas (of_class n c x)) (open_class_of c)
+
+-- so for each class
+abbrev pub AreComputed : Theory → List Class → List Choice → Type 0
+AreComputed th [] [] = Unit {0}
+AreComputed th (c ∷ cs) (x ∷ xs) = IsComputed th c x × AreComputed th cs xs
+AreComputed th _ _ = ⊥
+
+-- From the hypotheses of the theorem, at each pattern of the inputs the specification follows.
+abbrev pub EachPatternIsDerivable : Type 0
+EachPatternIsDerivable = (th : Theory) (k : ℕ) (cs : List Class) (xs : List Choice) → IsAccepted th → AreClasses th k cs → AreComputed th cs xs
+    → AllOf (λ p. IsTheorem th [] (formulas (hypotheses_of th k cs xs)) (universal_closure p.variables (implies (tested p.terms) (atom (start th p).term))))
+    (patterns th k)

@@ -10,7 +10,7 @@ mod theorems;
 mod working;
 
 ghost use Rattle.tg_derive.specs.Laws.{IsOneAnswer, ClassesAreOfTrees, ClassesCover, ClassesAreTyped, ConstraintsHaveNoCall, CallsAreAtInputs, TheoremIsTrue, AssumptionsAreNecessary};
-ghost use Rattle.tg_derive.specs.Derivability.{NormalFormsAreDerivable, ClassesAreDerivable, PatternsAreDerivable, ClosedPatternsAreDerivable};
+ghost use Rattle.tg_derive.specs.Derivability.{NormalFormsAreDerivable, ClassesAreDerivable, PatternsAreDerivable, ClosedPatternsAreDerivable, EachPatternIsDerivable};
 
 pub use errors::LimitErr;
 pub use listing::classes;
@@ -42,10 +42,11 @@ pub fn truth()
 
 /// What the 26 rules derive: a typed term equals its normal form; a class follows from its test and its uniformity, or from
 /// its open class; at a pattern the specification follows from what the pattern's classes say, and so it does at all values
-/// of the pattern's variables.
+/// of the pattern's variables. So from the hypotheses of the theorem it follows at each pattern of the inputs.
 pub fn provability()
     ensures forms { NormalFormsAreDerivable }
     ensures classes { ClassesAreDerivable }
     ensures leaves { PatternsAreDerivable }
     ensures patterns { ClosedPatternsAreDerivable }
+    ensures all_patterns { EachPatternIsDerivable }
 {}
