@@ -4,7 +4,7 @@ use Rattle.std.specs.Prelude.{slice_get}
 use Rattle.std.specs.Option.{option_map_or}
 use Rattle.std.specs.List.{flat_map}
 use Rattle.std.proofs.lemmas.Option.{slice_get_within}
-use Rattle.tg_model.specs.Tree.{Tree, free, truth}
+use Rattle.tg_model.specs.Tree.{free, truth}
 use Rattle.tg_model.specs.Types.{Ty}
 use Rattle.tg_model.specs.Formula.{Formula, atom, implies, tested}
 use Rattle.tg_model.specs.Theory.{Theory}
@@ -35,7 +35,7 @@ use Rattle.tg_calculus.specs.Sequent.{Context, Hypotheses, next, uses_from, uses
 use Rattle.tg_calculus.specs.Step.{IsContext, IsFormula}
 use Rattle.tg_calculus.specs.Theorem.{Follows, IsTheorem}
 use Rattle.tg_calculus.proofs.Computed.{no_place}
-use Rattle.tg_calculus.proofs.DerivedRules.{widened, conditional, detached, grown, well_formed, theorem_of, following_is_theorem}
+use Rattle.tg_calculus.proofs.DerivedRules.{widened, conditional, detached, grown, theorem_of, following_is_theorem}
 
 -- no formula without a context has a variable
 unused_in : (th : Theory) (F : Formula) → IsFormula th [] F → (n : ℕ) → uses_in_formula n F ≡ false

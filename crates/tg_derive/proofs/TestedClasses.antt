@@ -1,18 +1,17 @@
 -- A class follows from its test and its uniformity: the constraints compute at the tested values.
-use Rattle.std.proofs.Common.{ℕ, zero, suc, ◌≡◌, ◌+◌, ◌||◌, Bool, true, false, List, [], ◌∷◌, map, Some, None, refl, ap, ◌∙◌, inl, inr}
+use Rattle.std.proofs.Common.{ℕ, zero, suc, ◌≡◌, ◌+◌, ◌||◌, true, false, List, [], ◌∷◌, map, Some, None, refl, ap, ◌∙◌, inl, inr}
 use Rattle.std.specs.Prelude.{slice_get}
 use Rattle.std.specs.Option.{option_map_or}
 use Rattle.tg_model.specs.Tree as tree
 use Rattle.tg_model.specs.Tree.{Tree, Trees, Arms, bound, free, literal, truth, con, call, put, choice, case, bind, op}
-use Rattle.tg_model.specs.Types.{Ty, bool}
+use Rattle.tg_model.specs.Types.{bool}
 use Rattle.tg_model.specs.Value as value
 use Rattle.tg_model.specs.Value.{Value, Values, number, boolean, made}
-use Rattle.tg_model.specs.Formula.{Formula, atom, both, implies, tested}
+use Rattle.tg_model.specs.Formula.{Formula, atom, both, tested}
 use Rattle.tg_model.specs.Theory.{Theory}
 use Rattle.tg_model.specs.Typing.{AreTyped}
 use Rattle.tg_model.specs.TermTyping.{AreListTyped, IsWellFormed}
 use Rattle.tg_model.specs.Walk.{walk, walk_all, walk_arms, as_free, as_bound, raised, given, lifted, substituted, substituted_formula}
-use Rattle.tg_model.specs.Closing.{existential_closure}
 use Rattle.tg_model.specs.Calls.{has_call, have_call, branches_have_call}
 use Rattle.tg_model.specs.Accepted.{IsAccepted}
 use Rattle.tg_model.proofs.Keeping.{substitution_keeps_types}
@@ -22,12 +21,10 @@ use Rattle.tg_hyps.specs.Hypotheses.{Class, both_all, checked, test_of, uniformi
 use Rattle.tg_hyps.specs.Meaning.{AreTruths, IsClassOf}
 use Rattle.tg_hyps.proofs.ClosedForm.{some_typed, classes_are_well_formed}
 use Rattle.tg_hyps.proofs.TypedValues.{list_typed, tests_are_well_formed}
-use Rattle.tg_derive.specs.Theorem.{Choice, of_class, formulas}
-use Rattle.tg_derive.specs.Derivability.{IsComputed, ClassesAreDerivable}
+use Rattle.tg_derive.specs.Derivability.{ClassesAreDerivable}
 use Rattle.tg_derive.proofs.Instances.{IsStill, of_some}
 use Rattle.tg_calculus.specs.Sequent.{Hypotheses}
 use Rattle.tg_calculus.specs.Computing.{computes}
-use Rattle.tg_calculus.specs.Step.{IsFormula}
 use Rattle.tg_calculus.specs.Theorem.{Follows}
 use Rattle.tg_calculus.proofs.DerivedRules.{assumed, conjoined, left_of, right_of, detached, unmarked, by_computing, theorem_of}
 

@@ -1,5 +1,5 @@
 -- From the hypotheses of the theorem each class follows, and at each pattern the specification.
-use Rattle.std.proofs.Common.{ℕ, suc, ◌≡◌, false, List, [], ◌∷◌, ◌++◌, Option, Some, None, refl, sym, subst, inl, inr}
+use Rattle.std.proofs.Common.{ℕ, suc, ◌≡◌, false, List, [], ◌∷◌, Option, Some, None, refl, sym, subst, inl, inr}
 use Rattle.std.proofs.lemmas.List.{map-append}
 use Rattle.tg_model.specs.Formula.{Formula, atom, implies, tested}
 use Rattle.tg_model.specs.Theory.{Theory}
