@@ -23,3 +23,4 @@ pub mod Instances
 pub mod OpenClasses
 pub mod TestedClasses
 pub mod TheoremLines
+pub mod CaseLines

@@ -1,9 +1,10 @@
 -- What the calculus derives of normal forms and of classes.
-use Rattle.std.specs.Prelude.{ℕ, true, false, ◌≡◌, List, [], ◌∷◌, map, Some, None}
+use Rattle.std.specs.Prelude.{ℕ, suc, true, false, ◌≡◌, List, [], ◌∷◌, ◌++◌, map, Some, None}
 use Rattle.tg_model.specs.Tree.{Tree}
-use Rattle.tg_model.specs.Types.{Ty}
+use Rattle.tg_model.specs.Types.{Ty, Tys, applied, elements}
 use Rattle.tg_model.specs.Formula.{Formula, atom, implies, tested}
-use Rattle.tg_model.specs.Theory.{Theory}
+use Rattle.tg_model.specs.Theory.{Theory, numbered, first_constructor, IsClosed}
+use Rattle.tg_model.specs.TermTyping.{constructor_arguments}
 use Rattle.tg_model.specs.Typing.{AreTyped}
 use Rattle.tg_model.specs.Walk.{substituted}
 use Rattle.tg_model.specs.Closing.{universal_closure}
@@ -21,7 +22,8 @@ use Rattle.tg_calculus.specs.Sequent.{Context, Hypotheses, ◌│◌⊢◌, equa
 use Rattle.tg_calculus.specs.Computing.{computes}
 use Rattle.tg_calculus.specs.Step.{IsContext, IsFormula, IsTerm}
 use Rattle.tg_calculus.specs.Derivation.{Derives}
-use Rattle.tg_calculus.specs.Theorem.{IsTheorem}
+use Rattle.tg_calculus.specs.Theorem.{IsTheorem, Follows}
+use Rattle.tg_calculus.specs.Cases.{own_equation}
 use Rattle.tg_derive.specs.Goals.{start}
 use Rattle.tg_derive.specs.Classes.{AreClasses}
 use Rattle.tg_derive.specs.Trees.{AreClassesAt}
@@ -68,3 +70,14 @@ abbrev pub EachPatternIsDerivable : Type 0
 EachPatternIsDerivable = (th : Theory) (k : ℕ) (cs : List Class) (xs : List Choice) → IsAccepted th → AreClasses th k cs → AreComputed th cs xs
     → AllOf (λ p. IsTheorem th [] (formulas (hypotheses_of th k cs xs)) (universal_closure p.variables (implies (tested p.terms) (atom (start th p).term))))
     (patterns th k)
+
+-- With `?n` made by each constructor from number `c` on, of new variables, the formula follows.
+abbrev pub FollowInCases : Theory → Context → ℕ → Hypotheses → Formula → ℕ → List (List Ty) → Type 0
+FollowInCases th G n H Q c [] = Unit {0}
+FollowInCases th G n H Q c (Us ∷ rest) = Follows th (G ++ Us) (own_equation G n c Us ∷ H) Q × FollowInCases th G n H Q (suc c) rest
+
+-- What follows however a variable of a datatype is made follows, where the hypotheses have no variable.
+abbrev pub CasesAreEnough : Type 0
+CasesAreEnough = (th : Theory) (G : Context) (n d : ℕ) (Ts : Tys) (H : Hypotheses) (Q : Formula) → IsAccepted th → IsClosed th (applied d Ts)
+    → numbered G n ≡ Some (applied d Ts) → sequent.Each (IsFormula th []) H → IsFormula th G Q
+    → FollowInCases th G n H Q (first_constructor th.datatypes d) (constructor_arguments th d (elements Ts)) → Follows th G H Q

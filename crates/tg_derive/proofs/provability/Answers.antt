@@ -3,6 +3,7 @@ use Rattle.tg_derive.proofs.PatternLines.{patterns_are_derivable}
 use Rattle.tg_derive.proofs.OpenClasses.{closed_patterns_are_derivable}
 use Rattle.tg_derive.proofs.TestedClasses.{classes_are_derivable}
 use Rattle.tg_derive.proofs.TheoremLines.{each_pattern_is_derivable}
+use Rattle.tg_derive.proofs.CaseLines.{cases_are_enough}
 use Rattle.tg_derive.proofs.provability.Goals as goal
 
 pub returns-clause-forms : goal.returns-clause-forms
@@ -19,3 +20,6 @@ returns-clause-patterns c = closed_patterns_are_derivable
 
 pub returns-clause-all_patterns : goal.returns-clause-all_patterns
 returns-clause-all_patterns c = each_pattern_is_derivable
+
+pub returns-clause-cases : goal.returns-clause-cases
+returns-clause-cases c = cases_are_enough
