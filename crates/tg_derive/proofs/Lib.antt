@@ -10,3 +10,17 @@ pub mod ClassInputs
 pub mod TheoremLaws
 pub mod HypothesisLaws
 pub mod KnownClasses
+pub mod Equations
+pub mod NormalLines
+pub mod TruthLines
+pub mod ClauseLines
+pub mod MinimalParts
+pub mod ClassLines
+pub mod PatternLines
+pub mod WalkLaws
+pub mod Quantifiers
+pub mod Instances
+pub mod OpenClasses
+pub mod TestedClasses
+pub mod TheoremLines
+pub mod CaseLines

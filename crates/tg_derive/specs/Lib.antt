@@ -6,3 +6,4 @@ pub mod Answers
 pub mod Working
 pub mod Trees
 pub mod Laws
+pub mod Derivability

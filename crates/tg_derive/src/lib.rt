@@ -1,5 +1,5 @@
 //! The classes of a theory's inputs to a depth. They are defined in `specs/Classes.antt`, with the order of work and its limits
-//! in `specs/Work.antt`. Three functions have no code, and their contracts are the laws.
+//! in `specs/Work.antt`. Four functions have no code, and their contracts are the laws.
 #![tactic(auto)]
 
 mod budgets;
@@ -10,6 +10,7 @@ mod theorems;
 mod working;
 
 ghost use Rattle.tg_derive.specs.Laws.{IsOneAnswer, ClassesAreOfTrees, ClassesCover, ClassesAreTyped, ConstraintsHaveNoCall, CallsAreAtInputs, TheoremIsTrue, AssumptionsAreNecessary};
+ghost use Rattle.tg_derive.specs.Derivability.{NormalFormsAreDerivable, ClassesAreDerivable, PatternsAreDerivable, ClosedPatternsAreDerivable, EachPatternIsDerivable, CasesAreEnough};
 
 pub use errors::LimitErr;
 pub use listing::classes;
@@ -37,4 +38,17 @@ pub fn coverage()
 pub fn truth()
     ensures theorem { TheoremIsTrue }
     ensures necessary { AssumptionsAreNecessary }
+{}
+
+/// What the 26 rules derive: a typed term equals its normal form; a class follows from its test and its uniformity, or from
+/// its open class; at a pattern the specification follows from what the pattern's classes say, and so it does at all values
+/// of the pattern's variables. So from the hypotheses of the theorem it follows at each pattern of the inputs.
+/// And what follows however a variable of a datatype is made follows.
+pub fn provability()
+    ensures forms { NormalFormsAreDerivable }
+    ensures classes { ClassesAreDerivable }
+    ensures leaves { PatternsAreDerivable }
+    ensures patterns { ClosedPatternsAreDerivable }
+    ensures all_patterns { EachPatternIsDerivable }
+    ensures cases { CasesAreEnough }
 {}

@@ -116,7 +116,7 @@ module _ (th : Theory) (accepted : IsAccepted th) where
         let rest = typed_values vs ts closed.1 h.1 in
         (typing.more first.0 rest.0, (first.1, rest.1), ap₂ (λ (a : Ty) l. a ∷ l) first.2 rest.2)
 
-  list_typed : (vs : List Value) (ts : List Ty) → AreClosed th (tys ts) → AreTyped th vs ts → AreListTyped th [] [] (map term_of vs) ts
+  pub list_typed : (vs : List Value) (ts : List Ty) → AreClosed th (tys ts) → AreTyped th vs ts → AreListTyped th [] [] (map term_of vs) ts
   list_typed [] [] closed h = tt
   list_typed [] (t ∷ ts) closed h = absurd h
   list_typed (v ∷ vs) [] closed h = absurd h
