@@ -9,3 +9,4 @@ pub mod Embeddings
 pub mod ClosedTypes
 pub mod FormedLaws
 pub mod LeastLaws
+mod TestTheories

@@ -5,6 +5,8 @@
 mod adding;
 mod building;
 mod calls;
+#[cfg(test)]
+mod data_tests;
 mod embedding;
 mod errors;
 mod least;

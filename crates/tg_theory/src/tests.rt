@@ -20,7 +20,7 @@ fn a_specification_wants_a_program(rt: HostRuntime) -> Result<(), Fail> {
     Ok(())
 }
 
-fn program(alloc: Global, bytes: &[u8]) -> Result<ProgDef, AllocError>
+pub(crate) fn program(alloc: Global, bytes: &[u8]) -> Result<ProgDef, AllocError>
     ensures name { IfOk result (λ def. def.name ≡ bytes.now) }
     ensures inputs { IfOk result (λ def. def.inputs ≡ Nat ∷ []) }
     ensures answer { IfOk result (λ def. def.answer ≡ Nat) }
