@@ -8,7 +8,7 @@ ghost use Rattle.tg_hyps.specs.Hypotheses.{seen};
 use sqlite_items::Items;
 use std::alloc::{AllocError, Global};
 use tg_hyps::{conclusion, open_class, regularity, test, uniformity};
-use tg_kernel::Sequent;
+use tg_kernel::{Context, Hypotheses, Sequent};
 use tg_term::{Class, Formula, Value};
 use tg_theory::Theory;
 
@@ -121,8 +121,8 @@ pub fn goal(
     let hyps = formulas(alloc, hs.as_slice())?;
     let goal = conclusion(alloc, th)?;
     Ok(Sequent {
-        vars: Items::new(alloc),
-        hyps,
+        vars: Context::new(alloc, Items::new(alloc))?,
+        hyps: Hypotheses::new(alloc, hyps)?,
         goal,
     })
 }

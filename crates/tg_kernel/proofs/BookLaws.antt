@@ -170,8 +170,8 @@ pub book_more : (th : Theory) (es : List Entry) (l : Line) (s : model.Sequent) (
     → as_line e.line ≡ l → sequent e.sequent ≡ s → IsBook th (map entry (es ++ e ∷ []))
 book_more th es l s e book i p q =
     let j : IsInstance th (sequents (map entry es)) (as_line e.line) (sequent e.sequent) =
-        subst (λ (x : Line). IsInstance th (sequents (map entry es)) x (sequent e.sequent)) (sym p)
-        (subst (λ (x : model.Sequent). IsInstance th (sequents (map entry es)) l x) (sym q) i) in
+    subst (λ (x : Line). IsInstance th (sequents (map entry es)) x (sequent e.sequent)) (sym p)
+    (subst (λ (x : model.Sequent). IsInstance th (sequents (map entry es)) l x) (sym q) i) in
     subst (λ (x : List calculus.Entry). IsBook th x) (sym (map-append entry es (e ∷ []))) (follow_more th [] (map entry es) (entry e) book j)
 
 pub entry_count : (es : List Entry) → length es ≡ length (map entry es)

@@ -19,7 +19,6 @@ last_is all before last copy G types e c t g =
     (λ i. Some (t i, ty (c i))) ∙ last_of (map ty before) (ty last)
     ∙ ap without_last (sym (map-append ty before (last ∷ [])) ∙ ap (map ty) (sym e) ∙ g)
 
-
 take_types : (n : ℕ) (ts : List declared.Ty) → map ty (take n ts) ≡ take n (map ty ts)
 take_types zero ts = refl
 take_types (suc n) [] = refl

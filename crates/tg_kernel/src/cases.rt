@@ -61,7 +61,9 @@ fn fits(
     if uses_new(vars, new, goal)? {
         return Ok(false);
     }
-    let left = p.hyps.without(alloc, &own_equation(alloc, vars, n, c, new)?)?;
+    let left = p
+        .hyps
+        .without(alloc, &own_equation(alloc, vars, n, c, new)?)?;
     Ok(!some_use_new(vars, new, left.formulas())?)
 }
 

@@ -13,13 +13,7 @@ use tg_types::Ty;
 /// Whether so many constructors stand above a term of a datatype, in a term of the type.
 #[cycle(chains)]
 #[tactic(auto, using(crate::proofs::ChainLaws::chains))]
-fn has_chain(
-    alloc: Global,
-    th: &Theory,
-    t: &Term,
-    count: u64,
-    at: &Ty,
-) -> Result<bool, AllocError>
+fn has_chain(alloc: Global, th: &Theory, t: &Term, count: u64, at: &Ty) -> Result<bool, AllocError>
     ensures { IfOk result (λ b. b ≡ has_chain th.now t.now count (ty at.now)) }
 {
     let Some(fewer) = count.checked_sub(1) else {

@@ -77,7 +77,8 @@ fn is_type_alike(t: &Ty, u: &Ty) -> bool
         (Ty::Nat, Ty::Nat) | (Ty::Bool, Ty::Bool) => true,
         (Ty::Param(m), Ty::Param(n)) => *m == *n,
         (Ty::Meta(m), Ty::Meta(n)) => *m == *n,
-        (Ty::App(d, ts), Ty::App(e, us)) => *d == *e && are_types_alike(ts.as_slice(), us.as_slice()),
+        (Ty::App(d, ts), Ty::App(e, us)) => *d == *e
+            && are_types_alike(ts.as_slice(), us.as_slice()),
         _ => false,
     }
 }

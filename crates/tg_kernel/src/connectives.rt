@@ -26,8 +26,7 @@ pub(crate) fn and_i(alloc: Global, p: &Sequent, q: &Sequent) -> Drafted
     concluded(p.vars.share()?, hyps, Formula::new(alloc, both)?)
 }
 
-/// A conjunction gives its left side. (It follows from `cut`, `imp_i` and the truth tables, but no other rule
-/// takes a conjunction apart.)
+/// A conjunction gives its left side.
 pub(crate) fn and_l(p: &Sequent) -> Drafted
     ensures { (th : _) → IfOk result (Drafts th calculus.and_l (sequent p.now ∷ [])) }
 {
@@ -121,5 +120,10 @@ pub(crate) fn split(alloc: Global, t: &Term, p: &Sequent, q: &Sequent) -> Drafte
     let typed = Need::Typed(p.vars.share()?, t.share()?, Ty::Bool);
     let yes = p.hyps.without(alloc, &Formula::new(alloc, FormulaNode::Atom(t.share()?))?)?;
     let no = q.hyps.without(alloc, &denied(alloc, t)?)?;
-    with_need(typed, p.vars.share()?, yes.joined(alloc, &no)?, p.goal.share()?)
+    with_need(
+        typed,
+        p.vars.share()?,
+        yes.joined(alloc, &no)?,
+        p.goal.share()?,
+    )
 }

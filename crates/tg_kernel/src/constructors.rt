@@ -74,11 +74,7 @@ fn cases_of_naturals(alloc: Global) -> Result<Vec<Items<Ty>>, AllocError>
     Ok(cases)
 }
 
-fn of_constructors(
-    alloc: Global,
-    us: &[Ty],
-    cons: &[ConDef],
-) -> Result<Vec<Items<Ty>>, AllocError>
+fn of_constructors(alloc: Global, us: &[Ty], cons: &[ConDef]) -> Result<Vec<Items<Ty>>, AllocError>
     ensures { IfOk result (λ cs. map (map ty) cs.items ≡ map (at_instance (map ty us.now)) (map constructor cons.now)) }
 {
     let mut cases = Vec::new(alloc);

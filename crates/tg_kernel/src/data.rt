@@ -77,11 +77,7 @@ fn exhausted(
 
 /// The context without the new variables of the first case.
 #[tactic(auto, using(crate::proofs::CaseLaws::counting))]
-fn before_first(
-    alloc: Global,
-    vars: &Context,
-    cases: &[Items<Ty>],
-) -> Result<Context, AllocError>
+fn before_first(alloc: Global, vars: &Context, cases: &[Items<Ty>]) -> Result<Context, AllocError>
     ensures { IfOk result (λ c. c ≡ before_first vars.now (map (map ty) cases.now)) }
 {
     match cases.first() {
@@ -92,13 +88,7 @@ fn before_first(
 
 /// Under so many constructors stands a term of a datatype: so the inputs are deeper.
 #[tactic(auto, using(crate::proofs::DataLaws::deeper))]
-pub(crate) fn deep(
-    alloc: Global,
-    th: &Theory,
-    vars: &Context,
-    k: u64,
-    ts: &Items<Term>,
-) -> Drafted
+pub(crate) fn deep(alloc: Global, th: &Theory, vars: &Context, k: u64, ts: &Items<Term>) -> Drafted
     ensures { IfOk result (Drafts th.now (calculus.deep vars.now k (trees ts.now)) []) }
 {
     let inputs = th.program().inputs.as_slice();
@@ -108,7 +98,13 @@ pub(crate) fn deep(
     let goal = Formula::new(alloc, FormulaNode::Deep(k, shared(alloc, ts)?))?;
     let closed = Need::Closed(vars.share()?);
     let formed = Need::Formed(vars.share()?, goal.share()?);
-    let draft = with_needs(closed, formed, vars.share()?, Hypotheses::none(alloc)?, goal)?;
+    let draft = with_needs(
+        closed,
+        formed,
+        vars.share()?,
+        Hypotheses::none(alloc)?,
+        goal,
+    )?;
     Ok(draft)
 }
 

@@ -5,9 +5,7 @@ ghost use Rattle.tg_kernel.specs.Rules.{as_rule};
 ghost use Rattle.tg_kernel.specs.Sequents.{sequent};
 
 use crate::assumptions::{cut, grow, hyp, weak};
-use crate::connectives::{
-    absurd, and_i, and_l, and_r, imp_i, mp, split, thyp_e, thyp_i, truth,
-};
+use crate::connectives::{absurd, and_i, and_l, and_r, imp_i, mp, split, thyp_e, thyp_i, truth};
 use crate::data::{deep, exhaust};
 use crate::drafts::Drafted;
 use crate::quantifiers::{all_e, all_i, ex_e, ex_i};

@@ -53,7 +53,13 @@ pub(crate) fn ex_i(alloc: Global, some: &Formula, t: &Term, p: &Sequent) -> Draf
             }
             let formed = Need::Formed(p.vars.share()?, some.share()?);
             let typed = Need::Typed(p.vars.share()?, t.share()?, copy(alloc, at)?);
-            with_needs(formed, typed, p.vars.share()?, p.hyps.share()?, some.share()?)
+            with_needs(
+                formed,
+                typed,
+                p.vars.share()?,
+                p.hyps.share()?,
+                some.share()?,
+            )
         }
         _ => Ok(None),
     }
@@ -75,7 +81,11 @@ pub(crate) fn ex_e(alloc: Global, p: &Sequent, q: &Sequent) -> Drafted
             if uses_new(&p.vars, new, &q.goal)? || some_use_new(&p.vars, new, left.formulas())? {
                 return Ok(None);
             }
-            concluded(p.vars.share()?, p.hyps.joined(alloc, &left)?, q.goal.share()?)
+            concluded(
+                p.vars.share()?,
+                p.hyps.joined(alloc, &left)?,
+                q.goal.share()?,
+            )
         }
         _ => Ok(None),
     }

@@ -25,7 +25,13 @@ pub(crate) fn refl(alloc: Global, vars: &Context, t: &Term) -> Drafted
     let goal = equation(alloc, t, t)?;
     let closed = Need::Closed(vars.share()?);
     let formed = Need::Formed(vars.share()?, goal.share()?);
-    with_needs(closed, formed, vars.share()?, Hypotheses::none(alloc)?, goal)
+    with_needs(
+        closed,
+        formed,
+        vars.share()?,
+        Hypotheses::none(alloc)?,
+        goal,
+    )
 }
 
 /// The sides of an equation may change.
@@ -50,7 +56,12 @@ pub(crate) fn trans(alloc: Global, p: &Sequent, q: &Sequent) -> Drafted
     }
     let goal = equation(alloc, s, u)?;
     let formed = Need::Formed(p.vars.share()?, goal.share()?);
-    with_need(formed, p.vars.share()?, p.hyps.joined(alloc, &q.hyps)?, goal)
+    with_need(
+        formed,
+        p.vars.share()?,
+        p.hyps.joined(alloc, &q.hyps)?,
+        goal,
+    )
 }
 
 /// Equals may stand for equals, at some places, none or all, under binders too.
@@ -71,13 +82,7 @@ pub(crate) fn replace(alloc: Global, f: &Formula, p: &Sequent, q: &Sequent) -> D
 }
 
 /// A term equals what the row makes of it.
-pub(crate) fn schema(
-    alloc: Global,
-    th: &Theory,
-    vars: &Context,
-    row: SchemaId,
-    t: &Term,
-) -> Drafted
+pub(crate) fn schema(alloc: Global, th: &Theory, vars: &Context, row: SchemaId, t: &Term) -> Drafted
     ensures { IfOk result (Drafts th.now (calculus.schema vars.now row t.now) []) }
 {
     let Some(u) = step(alloc, th, row, t)? else {
@@ -86,7 +91,13 @@ pub(crate) fn schema(
     let goal = equation(alloc, t, &u)?;
     let closed = Need::Closed(vars.share()?);
     let formed = Need::Formed(vars.share()?, goal.share()?);
-    with_needs(closed, formed, vars.share()?, Hypotheses::none(alloc)?, goal)
+    with_needs(
+        closed,
+        formed,
+        vars.share()?,
+        Hypotheses::none(alloc)?,
+        goal,
+    )
 }
 
 /// A term that computes to True is true.
@@ -99,7 +110,13 @@ pub(crate) fn compute(alloc: Global, th: &Theory, vars: &Context, t: &Term) -> D
     let goal = Formula::new(alloc, FormulaNode::Atom(t.share()?))?;
     let closed = Need::Closed(vars.share()?);
     let formed = Need::Formed(Context::empty(alloc)?, goal.share()?);
-    with_needs(closed, formed, vars.share()?, Hypotheses::none(alloc)?, goal)
+    with_needs(
+        closed,
+        formed,
+        vars.share()?,
+        Hypotheses::none(alloc)?,
+        goal,
+    )
 }
 
 /// Whether the limited value of the term is True.

@@ -9,5 +9,5 @@ use Rattle.tg_kernel.proofs.books.Book.line.Goals as goal
 pub returns : goal.returns
 returns c =
     let g : numbered c.self.inside.entries.items c.args.t.0 ≡ Some c.entry_at.result.now =
-        ap (λ (es : List Entry). numbered es c.args.t.0) (sym c.as_slice.ensures.value) ∙ c.entry_at.ensures in
+    ap (λ (es : List Entry). numbered es c.args.t.0) (sym c.as_slice.ensures.value) ∙ c.entry_at.ensures in
     ap (λ (b : Book). numbered (lines b.entries) c.args.t.0) (sym c.self.view_is) ∙ found_line c.self.inside.entries.items c.args.t.0 c.entry_at.result.now g
