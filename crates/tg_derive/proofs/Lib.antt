@@ -24,3 +24,4 @@ pub mod OpenClasses
 pub mod TestedClasses
 pub mod TheoremLines
 pub mod CaseLines
+pub mod CoverLines
