@@ -78,7 +78,7 @@ con_typed th L c xs us T o there is e h =
     let r = typings_of_all th L xs (map (instance us) o.constructor.arguments) h in (instanced us T r.0, (o, there, is, e, r.2, r.1), refl)
 
 -- variables in a row have the types
-abbrev AreInRow : Context → ℕ → List Ty → Type 0
+abbrev pub AreInRow : Context → ℕ → List Ty → Type 0
 AreInRow G m [] = Unit {0}
 AreInRow G m (U ∷ Us) = (numbered G m ≡ Some U) × AreInRow G (suc m) Us
 
@@ -86,7 +86,7 @@ row_grows : (G K : Context) (m : ℕ) (Us : List Ty) → Extends G K → AreInRo
 row_grows G K m [] e h = tt
 row_grows G K m (U ∷ Us) e h = (e m U h.0, row_grows G K (suc m) Us e h.1)
 
-new_row : (pre post : List Ty) → AreInRow (pre ++ post) (suc (length pre)) post
+pub new_row : (pre post : List Ty) → AreInRow (pre ++ post) (suc (length pre)) post
 new_row pre [] = tt
 new_row pre (U ∷ post) = (
   item_there pre U post,
@@ -94,10 +94,10 @@ new_row pre (U ∷ post) = (
       (subst (λ n. AreInRow ((pre ++ U ∷ []) ++ post) (suc n) post) (count_more pre U) (new_row (pre ++ U ∷ []) post)),
 )
 
-abbrev row_of : ℕ → List Ty → Trees
+abbrev pub row_of : ℕ → List Ty → Trees
 row_of m Us = trees (variables_from m (length Us))
 
-row_typed : (th : Theory) (G : Context) (m : ℕ) (Us : List Ty) → AreInRow G m Us → AllTyped th G [] (row_of m Us) Us
+pub row_typed : (th : Theory) (G : Context) (m : ℕ) (Us : List Ty) → AreInRow G m Us → AllTyped th G [] (row_of m Us) Us
 row_typed th G m [] h = tt
 row_typed th G m (U ∷ Us) h = ((leaf U, h.0, refl), row_typed th G (suc m) Us h.1)
 
@@ -106,22 +106,22 @@ row_made m [] = tt
 row_made m (U ∷ Us) = (tt, row_made (suc m) Us)
 
 module _ (th : Theory) (H : Hypotheses) (accepted : IsAccepted th) (wf : Each (IsFormula th []) H) where
-  record HasHoles (G : Context) (Us : List Ty) (Q : Trees → Formula) : Type 0 where
-    into : (s r : Tree) (ts us : Trees) → AreMade ts → AreMade us → AllReplaced s r ts us → FormulaReplaced s r (Q ts) (Q us)
-    fits : (K : Context) → Extends G K → (ts : Trees) → AllTyped th K [] ts Us → IsFormula th K (Q ts)
+  pub record HasHoles (G : Context) (Us : List Ty) (Q : Trees → Formula) : Type 0 where
+    pub into : (s r : Tree) (ts us : Trees) → AreMade ts → AreMade us → AllReplaced s r ts us → FormulaReplaced s r (Q ts) (Q us)
+    pub fits : (K : Context) → Extends G K → (ts : Trees) → AllTyped th K [] ts Us → IsFormula th K (Q ts)
 
-  record CoversAll (k : ℕ) (Us : List Ty) (G K : Context) (ts : Trees) : Type 0 where
-    extends : Extends G K
-    closed : IsContext th K
-    typed : AllTyped th K [] ts Us
-    made : AreMade ts
-    covered : ((ss : Shapes) × IsAmong ss (products (of_type th.datatypes k) Us) × HaveShapes K ss ts) ⊎ (some_has_chain th ts k Us ≡ true)
+  pub record CoversAll (k : ℕ) (Us : List Ty) (G K : Context) (ts : Trees) : Type 0 where
+    pub extends : Extends G K
+    pub closed : IsContext th K
+    pub typed : AllTyped th K [] ts Us
+    pub made : AreMade ts
+    pub covered : ((ss : Shapes) × IsAmong ss (products (of_type th.datatypes k) Us) × HaveShapes K ss ts) ⊎ (some_has_chain th ts k Us ≡ true)
 
-  abbrev CoversType : ℕ → Type 0
+  abbrev pub CoversType : ℕ → Type 0
   CoversType k = (T : Ty) (G : Context) (n : ℕ) (Q : Tree → Formula) → IsContext th G → IsClosed th T → numbered G n ≡ Some T → HasHole th G T Q
       → ((K : Context) (t : Tree) → Covers th k T G K t → Follows th K H (Q t)) → Follows th G H (Q (free n))
 
-  cover_list : (k : ℕ) → CoversType k → (Us : List Ty) (G : Context) (m : ℕ) (Q : Trees → Formula) → IsContext th G → AreClosed th (tys Us) → AreInRow G m Us
+  pub cover_list : (k : ℕ) → CoversType k → (Us : List Ty) (G : Context) (m : ℕ) (Q : Trees → Formula) → IsContext th G → AreClosed th (tys Us) → AreInRow G m Us
       → HasHoles G Us Q → ((K : Context) (ts : Trees) → CoversAll k Us G K ts → Follows th K H (Q ts)) → Follows th G H (Q (row_of m Us))
   cover_list k each [] G m Q closed types row holes go =
       go G tree.none (record { extends = λ m T e. e; closed = closed; typed = tt; made = tt; covered = inl (none, inl refl, tt) })
@@ -231,7 +231,7 @@ module _ (th : Theory) (H : Hypotheses) (accepted : IsAccepted th) (wf : Each (I
       (λ j y e. (numbers_are_places th (c + j) (record { datatype = D; constructor = y })).1 (j, refl, (x, is, e)))
       (λ s i. subst (λ l. IsAmong s (of_constructors (of_type th.datatypes k) c l)) (sym found) i)))
 
-  cover_type : (k : ℕ) → CoversType k
+  pub cover_type : (k : ℕ) → CoversType k
   cover_type k nat G n Q closed is place holes go =
       go G (free n) (record { extends = λ i T e. e; closed = closed; typed = (leaf nat, place, refl); made = tt; covered = inl (hole nat, inl refl, place) })
   cover_type k bool G n Q closed is place holes go =

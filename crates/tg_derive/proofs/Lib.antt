@@ -25,3 +25,6 @@ pub mod TestedClasses
 pub mod TheoremLines
 pub mod CaseLines
 pub mod CoverLines
+pub mod PatternInstances
+pub mod InputHoles
+pub mod TheoremEnd
