@@ -23,20 +23,26 @@ use Rattle.tg_split.proofs.TypedPatterns.{patterns_are_typed}
 use Rattle.tg_hyps.specs.Written as written
 use Rattle.tg_hyps.specs.Hypotheses.{Class, some_data, regularity_of, conclusion_of, inputs_as_variables}
 use Rattle.tg_hyps.specs.Hypotheses as hyps
-use Rattle.tg_derive.specs.Theorem.{of_regularity, formulas}
+use Rattle.tg_derive.specs.Theorem.{Hypothesis, Choice, of_classes, of_regularity, hypotheses_of, formulas}
+use Rattle.tg_derive.specs.Derivability.{TheoremIsDerivable}
+use Rattle.tg_derive.proofs.ClassTypes.{classes_typed}
+use Rattle.tg_derive.proofs.Quantifiers.{closed_line}
+use Rattle.tg_derive.proofs.OpenClasses.{own_substituted, none_used}
+use Rattle.tg_derive.proofs.TheoremLines.{all_forms, themselves, each_pattern_is_derivable}
 use Rattle.tg_derive.specs.Covering.{HaveShapes}
 use Rattle.tg_derive.proofs.TruthLines.{within_more}
 use Rattle.tg_derive.proofs.ClauseLines.{in_map}
 use Rattle.tg_derive.proofs.Instances.{IsStill, at_terms, item_there, count_more}
-use Rattle.tg_derive.proofs.CoverLines.{CoversAll, cover_list, cover_type, new_row, row_typed}
+use Rattle.tg_derive.proofs.CoverLines.{CoversAll, cover_list, cover_type, new_row, row_of, row_typed}
 use Rattle.tg_derive.proofs.PatternInstances.{all_at_holes, all_holes_typed, all_holes_still, pattern_filled, twice}
 use Rattle.tg_derive.proofs.InputHoles.{specified, specified_formed, specified_holes, own_inputs}
 use Rattle.tg_calculus.specs.Sequent.{Context, Hypotheses, Each}
 use Rattle.tg_calculus.specs.Chains as chains
 use Rattle.tg_calculus.specs.Chains.{has_chain, some_has_chain, arguments_at}
 use Rattle.tg_calculus.specs.Step.{IsFormula}
-use Rattle.tg_calculus.specs.Theorem.{Follows}
-use Rattle.tg_calculus.proofs.DerivedRules.{assumed, widened, conditional, detached, grown, unmarked, is_deep}
+use Rattle.tg_calculus.specs.Theorem.{Follows, IsTheorem}
+use Rattle.tg_calculus.proofs.Hypotheses.{last_each}
+use Rattle.tg_calculus.proofs.DerivedRules.{assumed, widened, conditional, detached, grown, unmarked, is_deep, theorem_of, following_is_theorem}
 
 all_among : {A : Type 0} (P : A → Type 0) (xs : List A) (x : A) → AllOf P xs → IsAmong x xs → P x
 all_among P [] x h i = absurd i
@@ -74,6 +80,10 @@ no_chains th (tree.more t ts) k (T ∷ Ts) e =
 still_made : (ts : Trees) → AreMade ts → checks.Each IsStill (elements ts)
 still_made tree.none h = tt
 still_made (tree.more t ts) h = ((λ b d. (made_terms_stay t h.0).walked b d), still_made ts h.1)
+
+elements_trees : (ts : List Tree) → elements (trees ts) ≡ ts
+elements_trees [] = refl
+elements_trees (t ∷ ts) = ap (λ l. t ∷ l) (elements_trees ts)
 
 inputs_typed : (th : Theory) → AllTyped th th.program.inputs [] (inputs_as_variables th) th.program.inputs
 inputs_typed th =
@@ -130,3 +140,33 @@ module _ (th : Theory) (accepted : IsAccepted th) (j : ℕ) (H : Hypotheses) (wf
           (λ x. implies (tested (same x)) (implies (deep (suc j) (same x)) (atom (substituted (elements ts) th.specification)))) there in
           let T = tested ts in
           conditional th K v.typed (detached th K (detached th K (widened th K (within_more T H) at) (assumed th K v.closed v.typed (inl refl))) (is_deep th K j ts v.closed v.typed e))
+
+  specification_line : Follows th I H (specified th (row_of 1 I))
+  specification_line =
+      cover_list th H accepted wf (suc j) (cover_type th H accepted wf (suc j)) I I 1 (specified th) accepted.well_typed.inputs accepted.well_typed.inputs (new_row [] I)
+      (specified_holes th H accepted wf I) (λ K ts v. elim v.covered [ inl a ↦ pattern_case K ts v a.0 a.1 a.2 | inr e ↦ deep_case K ts v e ])
+
+  pub conclusion_line : Follows th [] H (conclusion_of th)
+  conclusion_line =
+      let vars = variables_from 1 (length I) in
+      let same = ap (λ l. atom (substituted l th.specification)) (elements_trees vars) ∙ own_substituted th I (atom th.specification) accepted.well_typed.specification in
+      closed_line th H (implies (tested (inputs_as_variables th)) (atom th.specification)) I (none_used th H wf)
+      (subst (λ (F : Formula). Follows th I H F) (λ i. implies (tested (own_inputs 1 I i)) (same i)) specification_line)
+
+all_known : (th : Theory) (H : Hypotheses) (G : Pattern → Formula) (ps : List Pattern) → AllOf (λ p. IsTheorem th [] H (G p)) ps
+    → AllOf (λ p. Follows th [] H (G p)) ps
+all_known th H G [] h = tt
+all_known th H G (p ∷ ps) h = (((following_is_theorem th [] H (G p)).0 h.0).1, all_known th H G ps h.1)
+
+pub theorem_is_derivable : TheoremIsDerivable
+theorem_is_derivable th zero cs xs accepted low are e = absurd (omega (arith, low))
+theorem_is_derivable th (suc j) cs xs accepted low are e =
+    let H = formulas (hypotheses_of th (suc j) cs xs) in
+    let wf = all_forms th accepted (suc j) cs xs (classes_typed th (suc j) cs accepted are) e in
+    let hs = of_classes 1 cs xs in
+    let rs = of_regularity (regularity_of th (suc j)) in
+    let all = subst (λ l. Each (λ F. Follows th [] H F) l) (map-append (λ (h : Hypothesis). h.formula) hs rs) (themselves th accepted H wf H (λ F i. i)) in
+    let regular = last_each (λ F. Follows th [] H F) (formulas hs) (formulas rs) all in
+    let lines = all_known th H (λ p. universal_closure p.variables (specified th p.terms)) (patterns th (suc j))
+    (each_pattern_is_derivable th (suc j) cs xs accepted are e) in
+    theorem_of th [] wf (conclusion_line th accepted j H wf lines regular)

@@ -10,7 +10,7 @@ mod theorems;
 mod working;
 
 ghost use Rattle.tg_derive.specs.Laws.{IsOneAnswer, ClassesAreOfTrees, ClassesCover, ClassesAreTyped, ConstraintsHaveNoCall, CallsAreAtInputs, TheoremIsTrue, AssumptionsAreNecessary};
-ghost use Rattle.tg_derive.specs.Derivability.{NormalFormsAreDerivable, ClassesAreDerivable, PatternsAreDerivable, ClosedPatternsAreDerivable, EachPatternIsDerivable, CasesAreEnough};
+ghost use Rattle.tg_derive.specs.Derivability.{NormalFormsAreDerivable, ClassesAreDerivable, PatternsAreDerivable, ClosedPatternsAreDerivable, EachPatternIsDerivable, CasesAreEnough, TheoremIsDerivable};
 ghost use Rattle.tg_derive.specs.Covering.{CoverIsDerivable};
 
 pub use errors::LimitErr;
@@ -45,7 +45,7 @@ pub fn truth()
 /// its open class; at a pattern the specification follows from what the pattern's classes say, and so it does at all values
 /// of the pattern's variables. So from the hypotheses of the theorem it follows at each pattern of the inputs.
 /// And what follows however a variable of a datatype is made follows; so does, at a variable, what follows at each shape of its
-/// type and at each deeper term.
+/// type and at each deeper term. So the theorem has a derivation.
 pub fn provability()
     ensures forms { NormalFormsAreDerivable }
     ensures classes { ClassesAreDerivable }
@@ -54,4 +54,5 @@ pub fn provability()
     ensures all_patterns { EachPatternIsDerivable }
     ensures cases { CasesAreEnough }
     ensures cover { CoverIsDerivable }
+    ensures theorem { TheoremIsDerivable }
 {}

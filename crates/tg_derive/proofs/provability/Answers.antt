@@ -5,6 +5,7 @@ use Rattle.tg_derive.proofs.TestedClasses.{classes_are_derivable}
 use Rattle.tg_derive.proofs.TheoremLines.{each_pattern_is_derivable}
 use Rattle.tg_derive.proofs.CaseLines.{cases_are_enough}
 use Rattle.tg_derive.proofs.CoverLines.{cover_is_derivable}
+use Rattle.tg_derive.proofs.TheoremEnd.{theorem_is_derivable}
 use Rattle.tg_derive.proofs.provability.Goals as goal
 
 pub returns-clause-forms : goal.returns-clause-forms
@@ -27,3 +28,6 @@ returns-clause-cases c = cases_are_enough
 
 pub returns-clause-cover : goal.returns-clause-cover
 returns-clause-cover c = cover_is_derivable
+
+pub returns-clause-theorem : goal.returns-clause-theorem
+returns-clause-theorem c = theorem_is_derivable
