@@ -1,5 +1,5 @@
 -- What follows at each shape of a type and at each deeper term follows at a variable: constructor by constructor.
-use Rattle.std.proofs.Common.{ℕ, zero, suc, ◌≡◌, ◌+◌, ◌<◌, ◌⊎◌, ◌||◌, Bool, true, false, List, [], ◌∷◌, ◌++◌, map, length, Option, Some, None, refl, sym, ◌∙◌, ap, subst, inl, inr, arith, append_assoc}
+use Rattle.std.proofs.Common.{ℕ, zero, suc, ◌≡◌, ◌+◌, ◌⊎◌, true, List, [], ◌∷◌, ◌++◌, map, length, Option, Some, refl, sym, ◌∙◌, ap, subst, inl, inr, arith, append_assoc}
 use Rattle.std.specs.Prelude.{slice_get}
 use Rattle.std.specs.Option.{option_map_or}
 use Rattle.std.proofs.lemmas.Option.{slice_get_within, none-some}
@@ -9,14 +9,13 @@ use Rattle.tg_model.specs.Types as types
 use Rattle.tg_model.specs.Types.{Ty, Tys, nat, bool, parameter, meta, applied, tys, elements}
 use Rattle.tg_model.specs.Formula.{Formula}
 use Rattle.tg_model.specs.Theory.{Theory, Datatype, Constructor, Owned, numbered, instance, first_constructor, constructor_at, IsClosed, AreClosed}
-use Rattle.tg_model.specs.TermTyping.{leaf, instanced, IsTyped, AllTyped, IsDatatype, constructor_arguments}
-use Rattle.tg_model.specs.Made.{IsMade, AreMade}
+use Rattle.tg_model.specs.TermTyping.{leaf, instanced, AllTyped, IsDatatype, constructor_arguments}
+use Rattle.tg_model.specs.Made.{AreMade}
 use Rattle.tg_model.specs.Accepted.{IsAccepted, IsAmong, variables_from}
 use Rattle.tg_model.proofs.Booleans.{or_left, or_right}
 use Rattle.tg_model.proofs.Constructors.{numbers_are_places}
 use Rattle.tg_model.proofs.Contexts.{types_depend_on_used, used_have_types}
 use Rattle.tg_model.proofs.Places.{get_left}
-use Rattle.tg_model.proofs.ValueTyping.{elements-tys}
 use Rattle.tg_split.specs.Shapes.{Shape, Shapes, hole, node, none, more, product, products, of_constructors, of_type}
 use Rattle.tg_hyps.proofs.TypedValues.{closed_data}
 use Rattle.tg_derive.specs.Covering.{HasShape, HaveShapes, IsCovered, Extends, HasHole, Covers, CoverIsDerivable}
@@ -26,11 +25,11 @@ use Rattle.tg_derive.proofs.TruthLines.{within_more}
 use Rattle.tg_derive.proofs.ClauseLines.{in_first, in_second, in_map}
 use Rattle.tg_derive.proofs.Instances.{item_there, count_more}
 use Rattle.tg_derive.proofs.CaseLines.{in_cases}
-use Rattle.tg_calculus.specs.Sequent.{Context, Hypotheses, Each, next, equation}
+use Rattle.tg_calculus.specs.Sequent.{Context, Hypotheses, Each, next}
 use Rattle.tg_calculus.specs.Cases.{own_equation}
 use Rattle.tg_calculus.specs.Replacement as by
 use Rattle.tg_calculus.specs.Replacement.{Replaced, AllReplaced, FormulaReplaced}
-use Rattle.tg_calculus.specs.Chains.{has_chain, some_has_chain, arguments_at}
+use Rattle.tg_calculus.specs.Chains.{has_chain, some_has_chain}
 use Rattle.tg_calculus.specs.Step.{IsContext, IsFormula, IsTerm}
 use Rattle.tg_calculus.specs.Theorem.{Follows}
 use Rattle.tg_calculus.proofs.NewVariables.{closed_both}
@@ -172,7 +171,7 @@ module _ (th : Theory) (H : Hypotheses) (accepted : IsAccepted th) (wf : Each (I
         let same : applied d (tys (elements Ts)) ≡ T = ap (applied d) (tys_back Ts) in
         let of_data = closed_data th accepted c o (elements Ts) there (subst (IsClosed th) (sym same) is_closed) in
         let made_typed : (L : Context) (xs : Trees) → AllTyped th L [] xs Us → IsTerm th L (con c xs) T = λ L xs h.
-            con_typed th L c xs (elements Ts) T o there of_data.0 (sym same) h in
+        con_typed th L c xs (elements Ts) T o there of_data.0 (sym same) h in
         let row = new_row G Us in
         let context = closed_both th G Us closed of_data.1 in
         let ext = longer G Us in
@@ -206,8 +205,7 @@ module _ (th : Theory) (H : Hypotheses) (accepted : IsAccepted th) (wf : Each (I
     all_cases c (y ∷ ys) there shapes =
         let o : Owned = record { datatype = d; constructor = y } in
         let here : constructor_at th c ≡ Some o = ap (constructor_at th) (let e : c ≡ c + 0 = omega arith in e) ∙ there 0 y refl in
-        let rest = of_constructors (of_type th.datatypes k) (suc c) (map at ys) in
-        (
+        let rest = of_constructors (of_type th.datatypes k) (suc c) (map at ys) in (
           one_case c y here (λ ss i. shapes (node c ss)
               (in_first (node c ss) (map (node c) (products (of_type th.datatypes k) (at y))) rest (in_map (node c) ss (products (of_type th.datatypes k) (at y)) i))),
           all_cases (suc c) ys

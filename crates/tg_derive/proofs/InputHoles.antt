@@ -1,16 +1,15 @@
 -- The specification at terms for the inputs, as a formula with holes; and at the inputs themselves.
-use Rattle.std.proofs.Common.{ℕ, zero, suc, ◌≡◌, ◌+◌, false, List, [], ◌∷◌, ◌++◌, length, Some, refl, sym, ◌∙◌, ap, subst}
+use Rattle.std.proofs.Common.{ℕ, zero, suc, ◌≡◌, ◌+◌, false, List, [], ◌∷◌, length, refl, sym, ap, subst}
 use Rattle.std.specs.Prelude.{slice_get}
 use Rattle.std.specs.Option.{option_map_or}
 use Rattle.tg_model.specs.Tree as tree
 use Rattle.tg_model.specs.Tree.{Tree, Trees, Arms, bound, free, literal, truth, con, call, put, choice, case, bind, op, trees, elements}
 use Rattle.tg_model.specs.Types.{Ty, bool}
 use Rattle.tg_model.specs.Formula.{Formula, atom, implies, tested}
-
 use Rattle.tg_model.specs.Theory.{Theory}
 use Rattle.tg_model.specs.TermTyping.{AllTyped}
 use Rattle.tg_model.specs.Walk.{walk, walk_all, walk_arms, as_bound, raised, given, lifted, substituted}
-use Rattle.tg_model.specs.Made.{IsMade, AreMade}
+use Rattle.tg_model.specs.Made.{AreMade}
 use Rattle.tg_model.specs.Accepted.{IsAccepted, variables_from}
 use Rattle.tg_model.proofs.MadeTerms.{made_terms_stay}
 use Rattle.tg_model.proofs.Keeping.{substitution_keeps_types}

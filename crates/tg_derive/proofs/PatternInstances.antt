@@ -1,21 +1,21 @@
 -- Terms of a pattern's shapes are the pattern at some variables, and the specification there is that at the pattern.
-use Rattle.std.proofs.Common.{ℕ, zero, suc, ◌≡◌, ◌+◌, false, List, [], ◌∷◌, ◌++◌, length, Some, refl, sym, ◌∙◌, ap, subst, arith, append_assoc, length-append}
+use Rattle.std.proofs.Common.{ℕ, zero, suc, ◌≡◌, ◌+◌, false, List, [], ◌∷◌, ◌++◌, length, refl, sym, ◌∙◌, ap, arith, append_assoc, length-append}
 use Rattle.std.specs.Prelude.{slice_get}
 use Rattle.std.specs.Option.{option_map_or}
 use Rattle.tg_model.specs.Tree as tree
 use Rattle.tg_model.specs.Tree.{Tree, Trees, bound, free, truth, con, elements}
 use Rattle.tg_model.specs.Types.{Ty}
-use Rattle.tg_model.specs.Theory.{Theory, numbered}
+use Rattle.tg_model.specs.Theory.{Theory}
 use Rattle.tg_model.specs.TermTyping.{leaf, AreListTyped}
-use Rattle.tg_model.specs.Walk.{walk, walk_all, as_bound, as_free, raised, given, lifted, substituted}
-use Rattle.tg_model.specs.Made.{IsMade, AreMade}
+use Rattle.tg_model.specs.Walk.{walk, walk_all, as_bound, raised, given, lifted, substituted}
+use Rattle.tg_model.specs.Made.{AreMade}
 use Rattle.tg_model.proofs.MadeTerms.{made_terms_stay}
 use Rattle.tg_accept.specs.Checks.{Each}
 use Rattle.tg_split.specs.Shapes.{Shape, Shapes, hole, node, none, more}
 use Rattle.tg_split.specs.Patterns.{holes, all_holes, term_from, terms_from}
 use Rattle.tg_derive.specs.Covering.{HasShape, HaveShapes}
 use Rattle.tg_derive.proofs.WalkLaws.{composed}
-use Rattle.tg_derive.proofs.Instances.{IsStill, item_there, count_more}
+use Rattle.tg_derive.proofs.Instances.{IsStill, item_there}
 use Rattle.tg_calculus.specs.Sequent.{Context}
 
 -- the variables in the holes, from the left

@@ -1,6 +1,5 @@
 -- The theorem: the inputs are covered by the patterns and by deeper terms, and at these the regularity gives the specification.
-use Rattle.std.proofs.Common.{ℕ, zero, suc, ◌≡◌, ◌≤◌, ◌||◌, Bool, true, false, List, [], ◌∷◌, ◌++◌, length, Option, Some, None, refl, sym, ◌∙◌, ap, subst, inl, inr, arith, append_assoc, if◌then◌else◌}
-use Rattle.std.specs.Prelude.{slice_get}
+use Rattle.std.proofs.Common.{ℕ, zero, suc, ◌≡◌, ◌||◌, Bool, true, false, List, [], ◌∷◌, ◌++◌, length, Some, None, refl, sym, ◌∙◌, ap, subst, inl, inr, arith, append_assoc, if◌then◌else◌}
 use Rattle.std.specs.Option.{option_map_or}
 use Rattle.std.proofs.lemmas.List.{map-append}
 use Rattle.tg_model.specs.Tree as tree
@@ -9,7 +8,7 @@ use Rattle.tg_model.specs.Types.{Ty, nat, bool, parameter, meta, applied}
 use Rattle.tg_model.specs.Formula.{Formula, atom, implies, thyp, tested, deep}
 use Rattle.tg_model.specs.Theory.{Theory}
 use Rattle.tg_model.specs.TermTyping.{AllTyped}
-use Rattle.tg_model.specs.Walk.{walk_all, as_bound, raised, given, lifted, substituted, substituted_formula}
+use Rattle.tg_model.specs.Walk.{walk_all, as_bound, raised, given, lifted, substituted}
 use Rattle.tg_model.specs.Closing.{universal_closure}
 use Rattle.tg_model.specs.Made.{AreMade}
 use Rattle.tg_model.specs.Accepted.{IsAccepted, IsAmong, variables_from}
@@ -23,7 +22,7 @@ use Rattle.tg_split.proofs.TypedPatterns.{patterns_are_typed}
 use Rattle.tg_hyps.specs.Written as written
 use Rattle.tg_hyps.specs.Hypotheses.{Class, some_data, regularity_of, conclusion_of, inputs_as_variables}
 use Rattle.tg_hyps.specs.Hypotheses as hyps
-use Rattle.tg_derive.specs.Theorem.{Hypothesis, Choice, of_classes, of_regularity, hypotheses_of, formulas}
+use Rattle.tg_derive.specs.Theorem.{Hypothesis, of_classes, of_regularity, hypotheses_of, formulas}
 use Rattle.tg_derive.specs.Derivability.{TheoremIsDerivable}
 use Rattle.tg_derive.proofs.ClassTypes.{classes_typed}
 use Rattle.tg_derive.proofs.Quantifiers.{closed_line}
@@ -37,8 +36,7 @@ use Rattle.tg_derive.proofs.CoverLines.{CoversAll, cover_list, cover_type, new_r
 use Rattle.tg_derive.proofs.PatternInstances.{all_at_holes, all_holes_typed, all_holes_still, pattern_filled, twice}
 use Rattle.tg_derive.proofs.InputHoles.{specified, specified_formed, specified_holes, own_inputs}
 use Rattle.tg_calculus.specs.Sequent.{Context, Hypotheses, Each}
-use Rattle.tg_calculus.specs.Chains as chains
-use Rattle.tg_calculus.specs.Chains.{has_chain, some_has_chain, arguments_at}
+use Rattle.tg_calculus.specs.Chains.{has_chain, some_has_chain}
 use Rattle.tg_calculus.specs.Step.{IsFormula}
 use Rattle.tg_calculus.specs.Theorem.{Follows, IsTheorem}
 use Rattle.tg_calculus.proofs.Hypotheses.{last_each}

@@ -1,5 +1,5 @@
 -- Covering a variable by case distinctions: what a type's terms are to a depth, and what holds of each of them.
-use Rattle.std.specs.Prelude.{ℕ, true, ◌≡◌, ◌⊎◌, List, [], Some}
+use Rattle.std.specs.Prelude.{ℕ, true, ◌≡◌, ◌⊎◌, [], Some}
 use Rattle.tg_model.specs.Tree as tree
 use Rattle.tg_model.specs.Tree.{Tree, Trees, free, con}
 use Rattle.tg_model.specs.Types.{Ty}
