@@ -1,6 +1,5 @@
 -- What follows however a variable of a datatype is made follows: the rule of case distinction over a bound on the hypotheses.
-use Rattle.std.proofs.Common.{ℕ, zero, suc, ◌≡◌, ◌≢◌, ◌<◌, ◌≤◌, ◌||◌, Bool, true, false, List, [], ◌∷◌, ◌++◌, map, length, Option, Some, None, refl, sym, ◌∙◌, ap, subst, inl, inr, arith}
-use Rattle.std.specs.Prelude.{slice_get}
+use Rattle.std.proofs.Common.{ℕ, zero, suc, ◌≡◌, ◌≢◌, ◌<◌, ◌||◌, Bool, true, false, List, [], ◌∷◌, ◌++◌, map, length, Option, Some, None, refl, sym, ◌∙◌, ap, inl, inr, arith}
 use Rattle.std.specs.Option.{option_map_or}
 use Rattle.std.proofs.lemmas.Option.{slice_get_within, none-some}
 use Rattle.tg_model.specs.Types.{Ty, Tys, applied, elements}
@@ -10,9 +9,9 @@ use Rattle.tg_model.specs.TermTyping.{constructor_arguments}
 use Rattle.tg_model.specs.Typing.{base_constructor}
 use Rattle.tg_model.specs.WellTyped.{IsWellTyped}
 use Rattle.tg_model.specs.Uses.{uses_in_formula}
-use Rattle.tg_model.specs.Accepted.{IsAccepted, IsAmong}
+use Rattle.tg_model.specs.Accepted.{IsAmong}
 use Rattle.tg_model.proofs.Contexts.{used_in_formulas_have_types}
-use Rattle.tg_calculus.specs.Sequent.{Context, Hypotheses, ◌│◌⊢◌, Each, ◌∪◌, ◌∖◌, next, uses_from, uses_new, some_use_new}
+use Rattle.tg_calculus.specs.Sequent.{Context, Hypotheses, ◌│◌⊢◌, Each, ◌∪◌, ◌∖◌, next, uses_from}
 use Rattle.tg_calculus.specs.Cases.{own_equation, AreCases, collected}
 use Rattle.tg_calculus.specs.Rule as rule
 use Rattle.tg_calculus.specs.Step as step
@@ -22,7 +21,6 @@ use Rattle.tg_calculus.specs.Derivation.{Derives, AllDerived, by_rule}
 use Rattle.tg_calculus.specs.Theorem.{AreWithin, Follows}
 use Rattle.tg_calculus.proofs.Hypotheses.{each_joined}
 use Rattle.tg_calculus.proofs.SetLaws.{among_each, each_among, each_other}
-use Rattle.tg_calculus.proofs.DerivedRules.{following_is_theorem}
 use Rattle.tg_derive.specs.Derivability.{FollowInCases, CasesAreEnough}
 use Rattle.tg_derive.proofs.OpenClasses.{none_used}
 

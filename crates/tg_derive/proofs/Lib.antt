@@ -24,3 +24,7 @@ pub mod OpenClasses
 pub mod TestedClasses
 pub mod TheoremLines
 pub mod CaseLines
+pub mod CoverLines
+pub mod PatternInstances
+pub mod InputHoles
+pub mod TheoremEnd

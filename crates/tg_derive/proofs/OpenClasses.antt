@@ -79,7 +79,7 @@ variables_typed th pre (T ∷ post) = (
       (variables_typed th (pre ++ T ∷ []) post)),
 )
 
-own_substituted : (th : Theory) (G : Context) (F : Formula) → IsWellFormed th G [] F → substituted_formula (variables_from 1 (length G)) F ≡ F
+pub own_substituted : (th : Theory) (G : Context) (F : Formula) → IsWellFormed th G [] F → substituted_formula (variables_from 1 (length G)) F ≡ F
 own_substituted th G F wf =
     formula_agreeing as_bound (given (variables_from 1 (length G))) as_free F 0 (λ d n u. at d n u)
     ∙ formula_unmoved as_bound as_free (λ d k. refl) (λ d n. refl) F 0

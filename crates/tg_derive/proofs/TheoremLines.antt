@@ -73,7 +73,7 @@ module _ (th : Theory) (accepted : IsAccepted th) where
         let both = subst (λ l. Each P l) a.4 h in
         (closed_pattern_line th accepted p is.0 a.0 a.2 H wf (each_left P a.0 a.1 both), patterns_follow wf ps is.1 a.1 a.3 (each_right P a.0 a.1 both))
 
-  themselves : (H : Hypotheses) → sequent.Each Form H → (K : Hypotheses) → ((F : Formula) → IsAmong F K → IsAmong F H)
+  pub themselves : (H : Hypotheses) → sequent.Each Form H → (K : Hypotheses) → ((F : Formula) → IsAmong F K → IsAmong F H)
       → sequent.Each (λ F. Follows th [] H F) K
   themselves H wf [] f = tt
   themselves H wf (F ∷ K) f =

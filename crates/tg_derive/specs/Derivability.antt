@@ -1,5 +1,5 @@
 -- What the calculus derives of normal forms and of classes.
-use Rattle.std.specs.Prelude.{ℕ, suc, true, false, ◌≡◌, List, [], ◌∷◌, ◌++◌, map, Some, None}
+use Rattle.std.specs.Prelude.{ℕ, suc, true, false, ◌≡◌, ◌≤◌, List, [], ◌∷◌, ◌++◌, map, Some, None}
 use Rattle.tg_model.specs.Tree.{Tree}
 use Rattle.tg_model.specs.Types.{Ty, Tys, applied, elements}
 use Rattle.tg_model.specs.Formula.{Formula, atom, implies, tested}
@@ -27,7 +27,7 @@ use Rattle.tg_calculus.specs.Cases.{own_equation}
 use Rattle.tg_derive.specs.Goals.{start}
 use Rattle.tg_derive.specs.Classes.{AreClasses}
 use Rattle.tg_derive.specs.Trees.{AreClassesAt}
-use Rattle.tg_derive.specs.Theorem.{Choice, of_class, hypotheses_of, formulas}
+use Rattle.tg_derive.specs.Theorem.{Choice, of_class, hypotheses_of, formulas, theorem_of}
 
 -- In an accepted theory a typed term equals its normal form, without hypotheses.
 abbrev pub NormalFormsAreDerivable : Type 0
@@ -81,3 +81,8 @@ abbrev pub CasesAreEnough : Type 0
 CasesAreEnough = (th : Theory) (G : Context) (n d : ℕ) (Ts : Tys) (H : Hypotheses) (Q : Formula) → IsAccepted th → IsClosed th (applied d Ts)
     → numbered G n ≡ Some (applied d Ts) → sequent.Each (IsFormula th []) H → IsFormula th G Q
     → FollowInCases th G n H Q (first_constructor th.datatypes d) (constructor_arguments th d (elements Ts)) → Follows th G H Q
+
+-- The theorem has a derivation, to a depth of at least 1.
+abbrev pub TheoremIsDerivable : Type 0
+TheoremIsDerivable = (th : Theory) (k : ℕ) (cs : List Class) (xs : List Choice) → IsAccepted th → 1 ≤ k → AreClasses th k cs → AreComputed th cs xs
+    → IsTheorem th [] (theorem_of th k cs xs).hypotheses (theorem_of th k cs xs).goal

@@ -7,3 +7,4 @@ pub mod Working
 pub mod Trees
 pub mod Laws
 pub mod Derivability
+pub mod Covering

@@ -10,7 +10,8 @@ mod theorems;
 mod working;
 
 ghost use Rattle.tg_derive.specs.Laws.{IsOneAnswer, ClassesAreOfTrees, ClassesCover, ClassesAreTyped, ConstraintsHaveNoCall, CallsAreAtInputs, TheoremIsTrue, AssumptionsAreNecessary};
-ghost use Rattle.tg_derive.specs.Derivability.{NormalFormsAreDerivable, ClassesAreDerivable, PatternsAreDerivable, ClosedPatternsAreDerivable, EachPatternIsDerivable, CasesAreEnough};
+ghost use Rattle.tg_derive.specs.Derivability.{NormalFormsAreDerivable, ClassesAreDerivable, PatternsAreDerivable, ClosedPatternsAreDerivable, EachPatternIsDerivable, CasesAreEnough, TheoremIsDerivable};
+ghost use Rattle.tg_derive.specs.Covering.{CoverIsDerivable};
 
 pub use errors::LimitErr;
 pub use listing::classes;
@@ -43,7 +44,8 @@ pub fn truth()
 /// What the 26 rules derive: a typed term equals its normal form; a class follows from its test and its uniformity, or from
 /// its open class; at a pattern the specification follows from what the pattern's classes say, and so it does at all values
 /// of the pattern's variables. So from the hypotheses of the theorem it follows at each pattern of the inputs.
-/// And what follows however a variable of a datatype is made follows.
+/// And what follows however a variable of a datatype is made follows; so does, at a variable, what follows at each shape of its
+/// type and at each deeper term. So the theorem has a derivation.
 pub fn provability()
     ensures forms { NormalFormsAreDerivable }
     ensures classes { ClassesAreDerivable }
@@ -51,4 +53,6 @@ pub fn provability()
     ensures patterns { ClosedPatternsAreDerivable }
     ensures all_patterns { EachPatternIsDerivable }
     ensures cases { CasesAreEnough }
+    ensures cover { CoverIsDerivable }
+    ensures theorem { TheoremIsDerivable }
 {}

@@ -76,7 +76,7 @@ arguments_of th d params (y ∷ ks) h (suc j) k e = arguments_of th d params ks 
 -- ---- terms of values
 
 -- a datatype at closed types, and the arguments of one of its constructors there
-closed_data : (th : Theory) → IsAccepted th → (c : ℕ) (o : Owned) (us : List Ty) → constructor_at th c ≡ Some o → IsClosed th (applied o.datatype (tys us))
+pub closed_data : (th : Theory) → IsAccepted th → (c : ℕ) (o : Owned) (us : List Ty) → constructor_at th c ≡ Some o → IsClosed th (applied o.datatype (tys us))
     → IsDatatype th o.datatype us × AreClosed th (tys (map (instance us) o.constructor.arguments))
 closed_data th accepted c o us here ((x, is, count), closed) =
     let place = (numbers_are_places th c o).0 here in

@@ -4,6 +4,8 @@ use Rattle.tg_derive.proofs.OpenClasses.{closed_patterns_are_derivable}
 use Rattle.tg_derive.proofs.TestedClasses.{classes_are_derivable}
 use Rattle.tg_derive.proofs.TheoremLines.{each_pattern_is_derivable}
 use Rattle.tg_derive.proofs.CaseLines.{cases_are_enough}
+use Rattle.tg_derive.proofs.CoverLines.{cover_is_derivable}
+use Rattle.tg_derive.proofs.TheoremEnd.{theorem_is_derivable}
 use Rattle.tg_derive.proofs.provability.Goals as goal
 
 pub returns-clause-forms : goal.returns-clause-forms
@@ -23,3 +25,9 @@ returns-clause-all_patterns c = each_pattern_is_derivable
 
 pub returns-clause-cases : goal.returns-clause-cases
 returns-clause-cases c = cases_are_enough
+
+pub returns-clause-cover : goal.returns-clause-cover
+returns-clause-cover c = cover_is_derivable
+
+pub returns-clause-theorem : goal.returns-clause-theorem
+returns-clause-theorem c = theorem_is_derivable
