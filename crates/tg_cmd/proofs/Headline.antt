@@ -1,5 +1,5 @@
 -- What a judged run has shown.
-use Rattle.std.proofs.Common.{ℕ, suc, ◌≡◌, inl, inr, Bool, true, false, List, [], ◌∷◌, ◌++◌, length, Option, Some, None, refl, sym, ap, ◌∙◌, subst, append_assoc}
+use Rattle.std.proofs.Common.{◌≤◌, ℕ, suc, ◌≡◌, inl, inr, Bool, true, false, List, [], ◌∷◌, ◌++◌, length, Option, Some, None, refl, sym, ap, ◌∙◌, subst, append_assoc}
 use Rattle.tg_accept.specs.Checks.{Each}
 use Rattle.tg_derive.specs.Classes.{AreClasses}
 use Rattle.tg_derive.specs.Laws.{IsChosen, AreChosen}
@@ -37,11 +37,14 @@ use Rattle.tg_types.specs.declared.verdicts.Verdict.{Verdict}
 use Rattle.tg_types.specs.declared.verdicts.Verdict.TheVariants.{Passed, Failed, Undecided, Raised, Missing, NoDatum}
 use Rattle.tg_verdict.specs.Verdicts.{verdict_by, verdict_at}
 use Rattle.tg_cmd.specs.Data.{choices_by_data}
+use Rattle.tg_derive.specs.Derivability.{IsComputed, AreComputed}
+use Rattle.tg_derive.proofs.TheoremEnd.{theorem_is_derivable}
+use Rattle.tg_cmd.proofs.SmallData.{AreInRange}
 use Rattle.tg_cmd.specs.Judging.{recorded, verdict_on_answer, verdict_of, verdicts_from, tested_if_passed, choices_by_verdicts, HasAnswer, HasOutcome}
 use Rattle.tg_harness.specs.Tests.{Record}
 use Rattle.tg_cmd.specs.Promises.{HasPassed, IsRefuted, EachIsRefuted, IsHeadline}
 use Rattle.tg_cmd.proofs.SimpleVariables.{IsFilledClass, filled_classes}
-use Rattle.tg_cmd.proofs.TrueTheorems.{choices_chosen}
+use Rattle.tg_cmd.proofs.TrueTheorems.{choices_chosen, choices_computed}
 use Rattle.tg_cmd.proofs.VerdictLaws.{HaveLengths}
 
 listed : (tb : Table) (vs : List Value) (a : Value) → Lists tb vs a → IsListed tb vs
@@ -66,6 +69,22 @@ module _ (th : Theory) where
   all_still_chosen n (c ∷ cs) [] rs h = absurd h
   all_still_chosen n (c ∷ cs) (x ∷ xs) rs h =
       (still_chosen c x (verdict_of th c x (recorded rs n)) h.0, all_still_chosen (suc n) cs xs rs h.1)
+
+still_computed : (th : Theory) (c : Class) (x : Choice) (v : Verdict) → IsComputed th c x → IsComputed th c (tested_if_passed v x)
+still_computed th c x Passed h = h
+still_computed th c x Failed h = tt
+still_computed th c x Undecided h = tt
+still_computed th c x Raised h = tt
+still_computed th c x Missing h = tt
+still_computed th c x NoDatum h = tt
+
+all_still_computed : (th : Theory) (n : ℕ) (cs : List Class) (xs : List Choice) (rs : List Record) → AreComputed th cs xs
+    → AreComputed th cs (choices_by_verdicts xs (verdicts_from th n cs xs rs))
+all_still_computed th n [] [] rs h = tt
+all_still_computed th n [] (x ∷ xs) rs h = absurd h
+all_still_computed th n (c ∷ cs) [] rs h = absurd h
+all_still_computed th n (c ∷ cs) (x ∷ xs) rs h =
+    (still_computed th c x (verdict_of th c x (recorded rs n)) h.0, all_still_computed th (suc n) cs xs rs h.1)
 
 -- ---- the value of the checks
 
@@ -292,8 +311,8 @@ module _ (th : Theory) (accepted : IsAccepted th) (k : ℕ) (cs : List Class) (a
   all_refuted n (c ∷ ds) (x ∷ xs) rs among is filled chosen =
       (class_refuted c x (recorded rs n) among.0 is.0 filled.0 chosen.0, all_refuted (suc n) ds xs rs among.1 is.1 filled.1 chosen.1)
 
-  pub headline : (s : Settings) (rs : List Record) → IsHeadline th k cs (choices_by_data th s cs) rs
-  headline s rs =
+  pub headline : (s : Settings) (rs : List Record) → AreInRange s → 1 ≤ k → IsHeadline th k cs (choices_by_data th s cs) rs
+  headline s rs range low =
       let xs = choices_by_data th s cs in
       let chosen = choices_chosen th accepted s k cs are in
       let by = choices_by_verdicts xs (verdicts_from th 1 cs xs rs) in
@@ -301,6 +320,7 @@ module _ (th : Theory) (accepted : IsAccepted th) (k : ℕ) (cs : List Class) (a
         true_theorem = record {
           theorem = λ tb table. theorem_is_true th k cs by accepted are (all_still_chosen th 1 cs xs rs chosen) tb table;
           necessary = λ tb table holds. assumptions_are_necessary th k cs by accepted are tb table holds;
+          derivable = theorem_is_derivable th k cs by accepted low are (all_still_computed th 1 cs xs rs (choices_computed th accepted s range k cs are));
         };
         specification = λ tb table has h. specification_holds th accepted k cs are tb table xs rs chosen has h;
         refuted =

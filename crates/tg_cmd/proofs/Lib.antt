@@ -10,6 +10,7 @@ pub mod Promises
 pub mod RecordLaws
 pub mod RequestLaws
 pub mod SimpleVariables
+pub mod SmallData
 pub mod Sources
 pub mod StandIns
 pub mod TestLaws

@@ -20,6 +20,7 @@ use Rattle.tg_cmd.specs.Reading.{IsTextOf}
 use Rattle.tg_harness.specs.Tests.{record_of}
 use Rattle.tg_verdict.specs.declared.errors.OutcomeErr.{OutcomeErr}
 use Rattle.tg_verdict.specs.declared.errors.OutcomeErr.TheVariants as errors
+use Rattle.tg_cmd.proofs.SmallData.{AreInRange}
 use Rattle.tg_cmd.proofs.Headline.{headline}
 use Rattle.tg_cmd.proofs.TrueTheorems.{true_theorem}
 
@@ -38,7 +39,7 @@ is_result a b = IsResult a → IsResult b
 moved : (a b : Answer) → a ≡ b → IsResult a → IsResult b
 moved a b e h = subst IsResult e h
 
-module _ (s : Settings) (input text : List ℕ) where
+module _ (s : Settings) (range : AreInRange s) (input text : List ℕ) where
   of_raw : (raw : RawTheory) → IsTextOf parts.Theory input raw → OfTheory IsReport s raw Done text → PrintsTheorem s input text
   of_raw raw reads (refused place k h line) = absurd (no_result k place (moved _ _ line.answers tt))
   of_raw raw reads (accepted th h (limited l i line)) = absurd (moved _ _ line.answers tt)
@@ -50,7 +51,7 @@ module _ (s : Settings) (input text : List ℕ) where
     accepted = h;
     are_classes = i;
     printed = line.says;
-    true_theorem = true_theorem th (theory_is_accepted raw.name (map raw_declaration raw.decls) th h) s s.depth cs i;
+    true_theorem = true_theorem th (theory_is_accepted raw.name (map raw_declaration raw.decls) th h) s s.depth cs range range.depth i;
   }
 
   pub prints_theorem : IsOutput (generate s) input Done text → PrintsTheorem s input text
@@ -82,7 +83,7 @@ module _ (s : Settings) (input text : List ℕ) where
     are_classes = i;
     are_outcomes = j;
     printed = line.says;
-    headline = headline th (theory_is_accepted v.0.name (map raw_declaration v.0.decls) th h) s.depth cs i s (map record_of os);
+    headline = headline th (theory_is_accepted v.0.name (map raw_declaration v.0.decls) th h) s.depth cs i s (map record_of os) range range.depth;
   }
 
   pub prints_headline : (answer : Answer) → IsResult answer → IsOutput (judge s) input answer text → PrintsHeadline s input text
@@ -99,12 +100,12 @@ if_some P Q f None h = tt
 if_some P Q f (Some input) h = f input h
 
 -- of what was written
-pub theorem_written : (s : Settings) (text : List ℕ) (left old new : Option (List ℕ)) → IfSome left (λ input. IsOutput (generate s) input Done text)
+pub theorem_written : (s : Settings) → AreInRange s → (text : List ℕ) (left old new : Option (List ℕ)) → IfSome left (λ input. IsOutput (generate s) input Done text)
     → Appends old new text → IsWritten (PrintsTheorem s) left old new
-theorem_written s text left old new h appended =
-    (text, if_some (λ input. IsOutput (generate s) input Done text) (λ input. PrintsTheorem s input text) (λ input. prints_theorem s input text) left h, appended)
+theorem_written s range text left old new h appended =
+    (text, if_some (λ input. IsOutput (generate s) input Done text) (λ input. PrintsTheorem s input text) (λ input. prints_theorem s range input text) left h, appended)
 
-pub headline_written : (s : Settings) (answer : Answer) (text : List ℕ) (left old new : Option (List ℕ)) → IsResult answer
+pub headline_written : (s : Settings) → AreInRange s → (answer : Answer) (text : List ℕ) (left old new : Option (List ℕ)) → IsResult answer
     → IfSome left (λ input. IsOutput (judge s) input answer text) → Appends old new text → IsWritten (PrintsHeadline s) left old new
-headline_written s answer text left old new r h appended =
-    (text, if_some (λ input. IsOutput (judge s) input answer text) (λ input. PrintsHeadline s input text) (λ input. prints_headline s input text answer r) left h, appended)
+headline_written s range answer text left old new r h appended =
+    (text, if_some (λ input. IsOutput (judge s) input answer text) (λ input. PrintsHeadline s input text) (λ input. prints_headline s range input text answer r) left h, appended)

@@ -15,6 +15,7 @@ use Rattle.tg_accept.specs.Declared.{nothing}
 use Rattle.tg_accept.specs.Theories.{IsTheoryOf}
 use Rattle.tg_grammar.specs.declared.declarations.RawTheory.{RawTheory}
 use Rattle.tg_grammar.specs.Parts as parts
+use Rattle.tg_calculus.specs.Theorem.{IsTheorem}
 use Rattle.tg_hyps.specs.Hypotheses.{Class}
 use Rattle.tg_infer.specs.View.{raw_declaration}
 use Rattle.tg_derive.specs.Classes.{AreClasses}
@@ -27,10 +28,12 @@ use Rattle.tg_cmd.specs.Output.{tests_of}
 use Rattle.tg_cmd.specs.Reading.{IsTextOf}
 
 -- The theorem of these classes and choices is true on every table; and on every table where the specification holds, so does each
--- hypothesis that no test shows, each uniformity, open class and regularity.
+-- hypothesis that no test shows, each uniformity, open class and regularity. The theorem has a derivation by the rules of the calculus,
+-- its hypotheses compared as sets.
 pub record IsTrueTheorem (th : Theory) (k : ℕ) (cs : List Class) (xs : List Choice) : Type 0 where
   pub theorem : (tb : Table) → IsTable th tb → IsTrueOn th tb (theorem_of th k cs xs)
   pub necessary : (tb : Table) → IsTable th tb → SatisfiesSpecification th tb → AllHold th tb [] (assumptions_of th k cs xs)
+  pub derivable : IsTheorem th [] (theorem_of th k cs xs).hypotheses (theorem_of th k cs xs).goal
 
 -- The text is the report on the theory that the input reads as, with its classes, and its theorem is true.
 pub record PrintsTheorem (s : Settings) (input text : List ℕ) : Type 0 where

@@ -9,6 +9,7 @@ use Rattle.tg_cmd.specs.Answers.{answer_after}
 use Rattle.tg_cmd.specs.Requests.{Request, generate, judge, asked, ReadsWords, AskFor}
 use Rattle.tg_cmd.specs.Output.{IsOutput, IsRead, HasBytes, Completes}
 use Rattle.tg_cmd.proofs.Completeness.{all_complete}
+use Rattle.tg_cmd.proofs.SmallData.{settings_in_range}
 use Rattle.tg_cmd.proofs.Promises.{theorem_written, headline_written}
 use Rattle.tg_cmd.proofs.top.run.Goals as goal
 
@@ -146,7 +147,7 @@ returns-in-Done-clause-theorem g c = λ t words done.
     let r = asked c.in-Some.request in
     let made = output_at c.args.words.now r (generate t) before Done c.in-Ok.output.text.items c.in-Some.ensures words
     (subst (λ (e : Ending). IfSome before (λ input. IsOutput r input (answer_after e) c.in-Ok.output.text.items)) c.in-Done.is c.in-Ok.ensures.made) in
-    theorem_written t c.as_slice.result.now before (g.K.Sink.written c.args.sink.now) (g.K.Sink.written c.write_all.new.sink)
+    theorem_written t (settings_in_range words.0 t words.2) c.as_slice.result.now before (g.K.Sink.written c.args.sink.now) (g.K.Sink.written c.write_all.new.sink)
     (subst (λ (z : List ℕ). IfSome before (λ input. IsOutput (generate t) input Done z)) (sym c.as_slice.ensures.value) made) c.in-Ok-write_all.ensures.whole
 
 pub returns-in-Done-clause-headline : goal.returns-in-Done-clause-headline
@@ -155,7 +156,7 @@ returns-in-Done-clause-headline g c = λ t words done.
     let r = asked c.in-Some.request in
     let made = output_at c.args.words.now r (judge t) before Done c.in-Ok.output.text.items c.in-Some.ensures words
     (subst (λ (e : Ending). IfSome before (λ input. IsOutput r input (answer_after e) c.in-Ok.output.text.items)) c.in-Done.is c.in-Ok.ensures.made) in
-    headline_written t Done c.as_slice.result.now before (g.K.Sink.written c.args.sink.now) (g.K.Sink.written c.write_all.new.sink) tt
+    headline_written t (settings_in_range words.0 t words.2) Done c.as_slice.result.now before (g.K.Sink.written c.args.sink.now) (g.K.Sink.written c.write_all.new.sink) tt
     (subst (λ (z : List ℕ). IfSome before (λ input. IsOutput (judge t) input Done z)) (sym c.as_slice.ensures.value) made) c.in-Ok-write_all.ensures.whole
 
 pub returns-in-TestsFailed-clause-headline : goal.returns-in-TestsFailed-clause-headline
@@ -164,5 +165,5 @@ returns-in-TestsFailed-clause-headline g c = λ t words done.
     let r = asked c.in-Some.request in
     let made = output_at c.args.words.now r (judge t) before TestsFailed c.in-Ok.output.text.items c.in-Some.ensures words
     (subst (λ (e : Ending). IfSome before (λ input. IsOutput r input (answer_after e) c.in-Ok.output.text.items)) c.in-TestsFailed.is c.in-Ok.ensures.made) in
-    headline_written t TestsFailed c.as_slice.result.now before (g.K.Sink.written c.args.sink.now) (g.K.Sink.written c.write_all.new.sink) tt
+    headline_written t (settings_in_range words.0 t words.2) TestsFailed c.as_slice.result.now before (g.K.Sink.written c.args.sink.now) (g.K.Sink.written c.write_all.new.sink) tt
     (subst (λ (z : List ℕ). IfSome before (λ input. IsOutput (judge t) input TestsFailed z)) (sym c.as_slice.ensures.value) made) c.in-Ok-write_all.ensures.whole
