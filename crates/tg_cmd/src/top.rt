@@ -33,11 +33,11 @@ use tg_types::Name;
 /// read before anything is written. `Memory` may come in place of any result before that, and then neither
 /// count of faults rose.
 ///
-/// The theorem that is printed has a derivation by the rules of the calculus and is true on every table, and each uniformity, open class and regularity that is
-/// printed is true on every table where the specification is. Where `judge` has answered `Done` or
-/// `TestsFailed`, the specification holds on every finite table that has the outcomes that are judged passed
-/// and on which these hypotheses hold, and an outcome that is judged failed refutes it. (HOL-TestGen's test
-/// theorem, after Brucker and Wolff.)
+/// The theorem that is printed has a derivation by the rules of the calculus and is true on every table, and
+/// each uniformity, open class and regularity that is printed is true on every table where the specification
+/// is. Where `judge` has answered `Done` or `TestsFailed`, the specification holds on every finite table that
+/// has the outcomes that are judged passed and on which these hypotheses hold, and an outcome that is judged
+/// failed refutes it. (HOL-TestGen's test theorem, after Brucker and Wolff.)
 pub fn run<S: Source, K: Sink>(
     alloc: Global,
     words: &[Name],
