@@ -1,5 +1,8 @@
 //! The hypotheses of the test theorem.
-ghost use Rattle.std.specs.Prelude.{◌≡◌, ◌∷◌, ◌++◌, [], IfOk, OnOk, length, map};
+ghost use Rattle.std.specs.Prelude.{◌≡◌, ◌≤◌, ◌∷◌, ◌++◌, [], IfOk, OnOk, length, map};
+ghost use Rattle.tg_calculus.specs.Theorem.{IsTheorem};
+ghost use Rattle.tg_derive.specs.Classes.{AreClasses};
+ghost use Rattle.tg_derive.specs.Derivability.{AreComputed};
 ghost use Rattle.tg_derive.specs.Theorem.{labelled, hypotheses_of, of_class, of_classes, formulas, theorem_of};
 ghost use Rattle.tg_kernel.specs.Sequents.{sequent};
 ghost use Rattle.tg_derive.specs.Answers.{choice_of, label_of, hypothesis};
@@ -106,7 +109,8 @@ fn add(hs: &mut Vec<Hypothesis>, label: Label, formula: Formula) -> Result<(), A
 }
 
 /// The test theorem of these classes, as a sequent without variables: from the hypotheses, the specification at every tested
-/// input.
+/// input. It has a derivation, its hypotheses compared as sets, where the classes are those of the theory to the depth, and the
+/// constraints of each tested class compute to True at its values.
 pub fn goal(
     alloc: Global,
     th: &Theory,
@@ -115,8 +119,11 @@ pub fn goal(
     choices: &[Choice],
 ) -> Result<Sequent, AllocError>
     requires { length classes.now ≡ length choices.now }
-    ensures { IfOk result (λ s. sequent s ≡ theorem_of th.now depth (map seen classes.now) (map choice_of choices.now)) }
+    ensures theorem { IfOk result (λ s. sequent s ≡ theorem_of th.now depth (map seen classes.now) (map choice_of choices.now)) }
+    ensures derivable { 1 ≤ depth → AreClasses th.now depth (map seen classes.now) → AreComputed th.now (map seen classes.now) (map choice_of choices.now)
+        → IfOk result (λ s. IsTheorem th.now [] (sequent s).hypotheses (sequent s).goal) }
 {
+    th.accepted();
     let hs = hypotheses(alloc, th, depth, classes, choices)?;
     let hyps = formulas(alloc, hs.as_slice())?;
     let goal = conclusion(alloc, th)?;

@@ -21,7 +21,6 @@ pub(crate) struct Entry {
 }
 
 /// What the line gives after the lines of a book, or `None` exactly where it is no instance of its rule.
-
 pub(crate) fn conclude(
     alloc: Global,
     th: &Theory,
@@ -44,7 +43,6 @@ pub(crate) fn conclude(
 }
 
 /// The sequents of the lines at the numbers, if each of these is a line's.
-
 fn premises(
     alloc: Global,
     entries: &[Entry],
