@@ -8,3 +8,4 @@ pub mod Unique
 pub mod Runs
 pub mod Effects
 pub mod Ends
+pub mod Joined

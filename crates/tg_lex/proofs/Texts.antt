@@ -45,7 +45,7 @@ is_name (x ∷ a) (y ∷ b) e =
     cc
 
 -- a test of each name of a table is a test of each text that has a code in it
-in_table : (test : List ℕ → Bool) (es : List Entry) (text : List ℕ) (code : ℕ) → list_all (λ e. test e.name) es ≡ true → code_in es text ≡ Some code → test text ≡ true
+pub in_table : (test : List ℕ → Bool) (es : List Entry) (text : List ℕ) (code : ℕ) → list_all (λ e. test e.name) es ≡ true → code_in es text ≡ Some code → test text ≡ true
 in_table test [] text code all found = absurd cc
 in_table test (e ∷ es) text code all found =
     let parts = and_parts (test e.name) (list_all (λ x. test x.name) es) all in

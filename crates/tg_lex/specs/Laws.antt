@@ -1,8 +1,8 @@
 -- Laws of the grammar of tokens, over all texts.
-use Rattle.std.specs.Prelude.{◌≡◌, ◌⊎◌, ℕ, List, All}
+use Rattle.std.specs.Prelude.{◌≡◌, ◌⊎◌, ℕ, ◌+◌, List, ◌∷◌, ◌++◌, length, map, All}
 use Rattle.tg_lex.specs.declared.token.Token.{Token}
 use Rattle.tg_lex.specs.declared.part.Fault.{Fault}
-use Rattle.tg_lex.specs.Grammar.{Reads, ReadsTo, FailsAt, IsTokenOf, Rises}
+use Rattle.tg_lex.specs.Grammar.{token, Reads, ReadsTo, FailsAt, IsTokenOf, Rises}
 
 -- a text has tokens or a first fault
 abbrev pub IsReadOrFails : List ℕ → Type 0
@@ -31,3 +31,11 @@ HasTexts = (bytes : List ℕ) (ts : List Token) (at : ℕ) → ReadsTo bytes ts 
 -- and follow one another
 abbrev pub HasRisingSpans : Type 0
 HasRisingSpans = (bytes : List ℕ) (ts : List Token) (at : ℕ) → ReadsTo bytes ts at → Rises 0 ts
+
+-- the token where it stands `n` bytes further on
+abbrev pub moved : ℕ → Token → Token
+moved n t = token t.kind (t.start + n) (t.end + n)
+
+-- the tokens of two texts with LF between them are those of the one and then those of the other
+abbrev pub ReadingsJoin : Type 0
+ReadingsJoin = (a b : List ℕ) (ts us : List Token) → Reads a ts → Reads b us → Reads (a ++ 10 ∷ b) (ts ++ map (moved (length a + 1)) us)

@@ -1,4 +1,4 @@
-ghost use Rattle.tg_lex.specs.Laws.{HasReadingOrFault, HasOneReading, HasOneFault, HasNotBoth, HasTexts, HasRisingSpans};
+ghost use Rattle.tg_lex.specs.Laws.{HasReadingOrFault, HasOneReading, HasOneFault, HasNotBoth, HasTexts, HasRisingSpans, ReadingsJoin};
 
 /// A text has one list of tokens or one first fault, and not both. It stands on the grammar alone.
 pub fn readings()
@@ -12,4 +12,9 @@ pub fn readings()
 pub fn fronts()
     ensures texts { HasTexts }
     ensures rise { HasRisingSpans }
+{}
+
+/// Two texts with LF between them have the tokens of both.
+pub fn joins()
+    ensures { ReadingsJoin }
 {}

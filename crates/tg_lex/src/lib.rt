@@ -18,7 +18,7 @@ mod symbol;
 mod tests;
 mod token;
 
-pub use laws::{fronts, readings};
+pub use laws::{fronts, joins, readings};
 pub use lexing::{lex, number};
 pub use load::{LOAD_LIMIT, is_nested};
 pub use token::{Kind, LexErr, Token};
