@@ -15,12 +15,12 @@ use Rattle.tg_lex.proofs.Texts.{in_table, clash}
 
 -- ---- lists
 
-drop_on : (n : ℕ) (xs ys : List ℕ) → n ≤ length xs → drop n (xs ++ ys) ≡ drop n xs ++ ys
+pub drop_on : (n : ℕ) (xs ys : List ℕ) → n ≤ length xs → drop n (xs ++ ys) ≡ drop n xs ++ ys
 drop_on zero xs ys h = refl
 drop_on (suc n) [] ys h = absurd (omega (arith, h))
 drop_on (suc n) (x ∷ xs) ys h = drop_on n xs ys (omega (arith, h))
 
-take_on : (n : ℕ) (xs ys : List ℕ) → n ≤ length xs → take n (xs ++ ys) ≡ take n xs
+pub take_on : (n : ℕ) (xs ys : List ℕ) → n ≤ length xs → take n (xs ++ ys) ≡ take n xs
 take_on zero xs ys h = refl
 take_on (suc n) [] ys h = absurd (omega (arith, h))
 take_on (suc n) (x ∷ xs) ys h = ap (λ l. x ∷ l) (take_on n xs ys (omega (arith, h)))

@@ -3,5 +3,6 @@ pub mod Writing
 mod Bytes
 mod Longest
 pub mod Forward
+pub mod Joined
 pub mod Proper
 mod KnownTexts

@@ -1,5 +1,5 @@
 -- What is written is read again.
-use Rattle.std.specs.Prelude.{◌≡◌, ℕ, ◌<◌, ◌^◌, IsTrue, List, [], ◌∷◌}
+use Rattle.std.specs.Prelude.{◌≡◌, ℕ, ◌<◌, ◌^◌, IsTrue, List, [], ◌∷◌, ◌++◌}
 use Rattle.tg_lex.specs.declared.token.Token.{Token}
 use Rattle.tg_lex.specs.Grammar.{Reads, is_word}
 use Rattle.tg_grammar.specs.Seen.{Seen, seen}
@@ -21,6 +21,10 @@ IsLexedBack = (ts : List Seen) → AreProper ts → HasTokens (render ts) ts
 -- So has the text of lines.
 abbrev pub AreLinesLexedBack : Type 0
 AreLinesLexedBack = (tss : List (List Seen)) → AreAllProper tss → HasTokens (lines tss) (joined tss)
+
+-- The tokens of two texts with LF between them are those of the one and then those of the other.
+abbrev pub TextsAreJoined : Type 0
+TextsAreJoined = (a b : List ℕ) (ts us : List Seen) → HasTokens a ts → HasTokens b us → HasTokens (a ++ 10 ∷ b) (ts ++ us)
 
 -- Two lists of proper tokens with one text are equal.
 abbrev pub TellsTokens : Type 0

@@ -1,10 +1,11 @@
-ghost use Rattle.tg_render.specs.Laws.{IsLexedBack, AreLinesLexedBack, TellsTokens, WordsAreProper, NumeralsAreProper};
+ghost use Rattle.tg_render.specs.Laws.{IsLexedBack, AreLinesLexedBack, TextsAreJoined, TellsTokens, WordsAreProper, NumeralsAreProper};
 
-/// The lexer finds in the text of proper tokens these tokens, and in lines those of the lines. So two lists
-/// of proper tokens with one text are equal.
+/// The lexer finds in the text of proper tokens these tokens, in lines those of the lines, and in two texts with LF between
+/// them those of both. So two lists of proper tokens with one text are equal.
 pub fn lexed_back()
     ensures tokens { IsLexedBack }
     ensures lines { AreLinesLexedBack }
+    ensures joined { TextsAreJoined }
     ensures told { TellsTokens }
 {}
 

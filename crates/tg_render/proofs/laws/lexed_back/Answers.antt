@@ -1,4 +1,5 @@
 use Rattle.tg_render.proofs.Forward.{tokens_back, lines_back, told}
+use Rattle.tg_render.proofs.Joined.{texts_joined}
 use Rattle.tg_render.proofs.laws.lexed_back.Goals as goal
 
 pub returns-clause-tokens : goal.returns-clause-tokens
@@ -9,3 +10,6 @@ returns-clause-lines c = lines_back
 
 pub returns-clause-told : goal.returns-clause-told
 returns-clause-told c = told
+
+pub returns-clause-joined : goal.returns-clause-joined
+returns-clause-joined c = texts_joined
