@@ -8,3 +8,4 @@ pub mod StepLaws
 pub mod AnswerLaws
 pub mod Unnamed
 pub mod Reading
+pub mod Numbers

@@ -10,3 +10,4 @@ pub mod Operating
 pub mod Evaluating
 pub mod Answering
 pub mod Reading
+pub mod Numbers

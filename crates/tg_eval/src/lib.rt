@@ -1,5 +1,5 @@
 //! The limited value of a term: call by value, within bounds. It is defined in `specs/Limited.antt`, which the
-//! evaluator gives exactly. Two functions have no code, and their contracts are the laws.
+//! evaluator gives exactly. Three functions have no code, and their contracts are the laws.
 #![tactic(auto)]
 
 mod converting;
@@ -15,6 +15,7 @@ mod tests;
 mod theories;
 
 ghost use Rattle.tg_eval.specs.Laws.{LimitedIsValue, LimitedWithoutCalls};
+ghost use Rattle.tg_eval.specs.Numbers.{LimitedIsSmall};
 ghost use Rattle.tg_eval.specs.Reading.{LimitedReadsUsed, LimitedOfSubstituted};
 
 pub use converting::{plain, shared, shared_all};
@@ -36,4 +37,10 @@ pub fn limited_is_value()
 pub fn limited_reads_used()
     ensures used { LimitedReadsUsed }
     ensures substituted { LimitedOfSubstituted }
+{}
+
+/// The numbers in a limited value are below 2^64, where those in the values of variables and in the answer that it takes for
+/// program calls are.
+pub fn limited_is_small()
+    ensures { LimitedIsSmall }
 {}
