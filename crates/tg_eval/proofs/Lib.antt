@@ -9,3 +9,4 @@ pub mod AnswerLaws
 pub mod Unnamed
 pub mod Reading
 pub mod Numbers
+mod KnownNumbers

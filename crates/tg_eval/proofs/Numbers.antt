@@ -41,7 +41,8 @@ others_small vs h n = All-append IsSmall (take _ vs) (drop n vs) (All-take IsSma
 reversed_small : (vs : List Value) → EachSmall vs → EachSmall (reverse vs)
 reversed_small vs h = All-permutation IsSmall vs (reverse vs) (IsPermutation-reverse vs) h
 
-opened_at : (b : Bool) (k : ℕ) (vs : Values) → AreSmall vs → IfSome (cond b (Some (k, elements vs)) None) (λ (p : ℕ × List Value). EachSmall p.1)
+opened_at : (b : Bool) (k : ℕ) (vs : Values) → AreSmall vs
+    → IfSome (cond b (Some (k, elements vs)) None) (λ (p : ℕ × List Value). EachSmall p.1)
 opened_at true k vs h = small_elements vs h
 opened_at false k vs h = tt
 
@@ -139,7 +140,8 @@ abbrev HaveSmall : Option (List Value × ℕ) → Type 0
 HaveSmall None = Unit {0}
 HaveSmall (Some r) = EachSmall r.0
 
-then_small : (o : Outcome) (f : Value → ℕ → Outcome) → HasSmall o → ((v : Value) (rest : ℕ) → IsSmall v → HasSmall (f v rest)) → HasSmall (then_value o f)
+then_small : (o : Outcome) (f : Value → ℕ → Outcome) → HasSmall o → ((v : Value) (rest : ℕ) → IsSmall v → HasSmall (f v rest))
+    → HasSmall (then_value o f)
 then_small None f h k = tt
 then_small (Some r) f h k = k r.0 r.1 h
 
@@ -180,16 +182,20 @@ module _ (th : Theory) (answer : Value) (small : IsSmall answer) where
   KeepsSmall ev = (t : Tree) (left : ℕ) (env loc : List Value) → EachSmall env → EachSmall loc → HasSmall (ev left env loc t)
 
   module _ (ev : Evaluator) (keeps : KeepsSmall ev) where
-    all_small : (ts : Trees) (left : ℕ) (env loc : List Value) → EachSmall env → EachSmall loc → HaveSmall (all_by th answer ev left env loc ts)
+    all_small : (ts : Trees) (left : ℕ) (env loc : List Value) → EachSmall env → EachSmall loc
+        → HaveSmall (all_by th answer ev left env loc ts)
     all_small tree.none left env loc e l = All-nil IsSmall
     all_small (tree.more t ts) left env loc e l =
-        more_small (ev left env loc t) (λ rest. all_by th answer ev rest env loc ts) (keeps t left env loc e l) (λ rest. all_small ts rest env loc e l)
+        more_small (ev left env loc t) (λ rest. all_by th answer ev rest env loc ts) (keeps t left env loc e l)
+        (λ rest. all_small ts rest env loc e l)
 
-    found_small : (o : Option Tree) (left : ℕ) (env : List Value) → EachSmall env → HasSmall (option_map_or (λ t. ev left env [] t) o (Some (wrong, left)))
+    found_small : (o : Option Tree) (left : ℕ) (env : List Value) → EachSmall env
+        → HasSmall (option_map_or (λ t. ev left env [] t) o (Some (wrong, left)))
     found_small None left env e = tt
     found_small (Some t) left env e = keeps t left env [] e (All-nil IsSmall)
 
-    case_small : (o : Option (ℕ × List Value)) (left : ℕ) (rest : List Value) (cases : List Tree) → EachSmall rest → IfSome o (λ p. EachSmall p.1)
+    case_small : (o : Option (ℕ × List Value)) (left : ℕ) (rest : List Value) (cases : List Tree) → EachSmall rest
+        → IfSome o (λ p. EachSmall p.1)
         → HasSmall (case_by th answer ev left rest cases o)
     case_small None left rest cases r h = tt
     case_small (Some p) left rest cases r h = found_small (slice_get cases p.0) left (rest ++ p.1) (All-append IsSmall rest p.1 r h)
@@ -240,7 +246,8 @@ module _ (th : Theory) (answer : Value) (small : IsSmall answer) where
         then_all_small (all_by th answer ev left env loc ts) (λ vs rest. below_bound (operated o vs) rest) (all_small ts left env loc e l)
         (λ vs rest h. bounded_small (operated o vs) rest (operated_plain o vs))
 
-    right_small : (b : Option Bool) (other : Outcome) (rest : ℕ) → HasSmall other → HasSmall (option_map_or (λ b. Some (boolean b, rest)) b other)
+    right_small : (b : Option Bool) (other : Outcome) (rest : ℕ) → HasSmall other
+        → HasSmall (option_map_or (λ b. Some (boolean b, rest)) b other)
     right_small None other rest h = h
     right_small (Some b) other rest h = tt
 
@@ -251,7 +258,8 @@ module _ (th : Theory) (answer : Value) (small : IsSmall answer) where
         (λ x rest. option_map_or (λ b. Some (boolean b, rest)) (decided o x)
         (then_value (ev rest env loc u) (λ y last. Some (operated o (x ∷ y ∷ []), last)))) (keeps t left env loc e l)
         (λ x rest h. right_small (decided o x) (then_value (ev rest env loc u) (λ y last. Some (operated o (x ∷ y ∷ []), last))) rest
-        (then_small (ev rest env loc u) (λ y last. Some (operated o (x ∷ y ∷ []), last)) (keeps u rest env loc e l) (λ y last k. gives (x ∷ y ∷ []))))
+        (then_small (ev rest env loc u) (λ y last. Some (operated o (x ∷ y ∷ []), last)) (keeps u rest env loc e l)
+        (λ y last k. gives (x ∷ y ∷ []))))
 
     level_small : KeepsSmall (level_by th answer ev)
     level_small (bound k) left env loc e l = got_small loc l k
@@ -259,13 +267,15 @@ module _ (th : Theory) (answer : Value) (small : IsSmall answer) where
     level_small (literal n) left env loc e l = number_small n left (nat_lt n 18446744073709551616) refl
     level_small (truth b) left env loc e l = tt
     level_small (con c ts) left env loc e l =
-        then_all_small (all_by th answer ev left env loc ts) (λ vs rest. small_enough (made c (values vs)) rest) (all_small ts left env loc e l)
+        then_all_small (all_by th answer ev left env loc ts) (λ vs rest. small_enough (made c (values vs)) rest)
+        (all_small ts left env loc e l)
         (λ vs rest h. made_small (made c (values vs)) rest (nat_le (value_nodes (made c (values vs))) 100000) (small_values vs h))
     level_small (call f ts) left env loc e l =
         then_all_small (all_by th answer ev left env loc ts) (λ vs rest. called_by th answer ev rest f vs) (all_small ts left env loc e l)
         (λ vs rest h. called_small rest f vs h)
     level_small (put ts) left env loc e l =
-        then_all_small (all_by th answer ev left env loc ts) (λ vs rest. Some (answer, rest)) (all_small ts left env loc e l) (λ vs rest h. small)
+        then_all_small (all_by th answer ev left env loc ts) (λ vs rest. Some (answer, rest)) (all_small ts left env loc e l)
+        (λ vs rest h. small)
     level_small (choice tree.none) left env loc e l = tt
     level_small (choice (tree.more c tree.none)) left env loc e l = tt
     level_small (choice (tree.more c (tree.more t tree.none))) left env loc e l = tt
@@ -276,7 +286,8 @@ module _ (th : Theory) (answer : Value) (small : IsSmall answer) where
     level_small (case d t arms) left env loc e l =
         then_small (ev left env loc t) (λ v rest. opened_by th answer ev rest env loc (opened d (first_constructor th.datatypes d) v) arms)
         (keeps t left env loc e l)
-        (λ v rest h. open_small (opened d (first_constructor th.datatypes d) v) arms rest env loc e l (opened_small d (first_constructor th.datatypes d) v h))
+        (λ v rest h. open_small (opened d (first_constructor th.datatypes d) v) arms rest env loc e l
+        (opened_small d (first_constructor th.datatypes d) v h))
     level_small (bind t body) left env loc e l =
         then_small (ev left env loc t) (λ v rest. ev rest env (v ∷ loc) body) (keeps t left env loc e l)
         (λ v rest h. keeps body rest env (v ∷ loc) e (All-cons IsSmall v loc h l))
@@ -316,4 +327,5 @@ module _ (th : Theory) (answer : Value) (small : IsSmall answer) where
   limited_keeps (suc levels) t left env loc e l = level_small (limited th answer levels) (limited_keeps levels) t left env loc e l
 
 pub limited_is_small : LimitedIsSmall
-limited_is_small th answer small env loc e l levels left rest t v is = subst HasSmall is (limited_keeps th answer small levels t left env loc e l)
+limited_is_small th answer small env loc e l levels left rest t v is =
+    subst HasSmall is (limited_keeps th answer small levels t left env loc e l)

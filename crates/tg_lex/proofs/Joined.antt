@@ -46,7 +46,8 @@ closes_on (b ∷ c ∷ bytes) r = refl
 abbrev ways : Bool → Bool → Option (List ℕ) → Option (List ℕ) → Option (List ℕ) → Option (List ℕ)
 ways o c x y z = elim o [ true ↦ x | false ↦ elim c [ true ↦ y | false ↦ z ] ]
 
-each_way : (o c : Bool) (x y z x' y' z' : Option (List ℕ)) (rest rest' : List ℕ) → (x ≡ Some rest → x' ≡ Some rest') → (y ≡ Some rest → y' ≡ Some rest')
+each_way : (o c : Bool) (x y z x' y' z' : Option (List ℕ)) (rest rest' : List ℕ) → (x ≡ Some rest → x' ≡ Some rest')
+    → (y ≡ Some rest → y' ≡ Some rest')
     → (z ≡ Some rest → z' ≡ Some rest') → ways o c x y z ≡ Some rest → ways o c x' y' z' ≡ Some rest'
 each_way true c x y z x' y' z' rest rest' f g h e = f e
 each_way false true x y z x' y' z' rest rest' f g h e = g e
@@ -60,8 +61,10 @@ open_on true zero (b ∷ bytes) r rest e = let same : bytes ≡ rest = cc in ap 
 open_on true (suc depth) (b ∷ bytes) r rest e = open_on false (suc depth) bytes r rest e
 open_on false depth (b ∷ bytes) r rest e =
     let more = bytes ++ 10 ∷ r in
-    (λ i. ways (opens_on (b ∷ bytes) r i) (closes_on (b ∷ bytes) r i) (after_open true (suc depth) more) (after_open true (depth - 1) more) (after_open false depth more))
-    ∙ each_way (opens (b ∷ bytes)) (closes (b ∷ bytes)) (after_open true (suc depth) bytes) (after_open true (depth - 1) bytes) (after_open false depth bytes)
+    (λ i. ways (opens_on (b ∷ bytes) r i) (closes_on (b ∷ bytes) r i) (after_open true (suc depth) more)
+    (after_open true (depth - 1) more) (after_open false depth more))
+    ∙ each_way (opens (b ∷ bytes)) (closes (b ∷ bytes)) (after_open true (suc depth) bytes) (after_open true (depth - 1) bytes)
+    (after_open false depth bytes)
     (after_open true (suc depth) more) (after_open true (depth - 1) more) (after_open false depth more) rest (rest ++ 10 ∷ r)
     (open_on true (suc depth) bytes r rest) (open_on true (depth - 1) bytes r rest) (open_on false depth bytes r rest) e
 
@@ -167,10 +170,12 @@ tokens_moved at n (parts.Token kind size ∷ qs) =
     let same : at + n + size ≡ at + size + n = omega arith in
     λ i. token kind (at + n) (same i) ∷ (ap (λ m. tokens_from m qs) same ∙ tokens_moved (at + size) n qs) i
 
-tokens_on : (at end : ℕ) (ps qs : List Part) → at + total ps ≡ end → tokens_from at (ps ++ parts.Skip 1 ∷ qs) ≡ tokens_from at ps ++ tokens_from (end + 1) qs
+tokens_on : (at end : ℕ) (ps qs : List Part) → at + total ps ≡ end
+    → tokens_from at (ps ++ parts.Skip 1 ∷ qs) ≡ tokens_from at ps ++ tokens_from (end + 1) qs
 tokens_on at end [] qs e = let same : at ≡ end = omega arith in ap (λ n. tokens_from (n + 1) qs) same
 tokens_on at end (parts.Skip size ∷ ps) qs e = tokens_on (at + size) end ps qs (omega (arith, e))
-tokens_on at end (parts.Token kind size ∷ ps) qs e = ap (λ ts. token kind at (at + size) ∷ ts) (tokens_on (at + size) end ps qs (omega (arith, e)))
+tokens_on at end (parts.Token kind size ∷ ps) qs e =
+    ap (λ ts. token kind at (at + size) ∷ ts) (tokens_on (at + size) end ps qs (omega (arith, e)))
 
 place : (n : ℕ) → 0 + (n + 1) ≡ n + 1
 place n = omega arith

@@ -21,9 +21,11 @@ slice_on a x start end some within =
 
 behind : (a b : List ℕ) (n : ℕ) → drop (n + (length a + 1)) (a ++ 10 ∷ b) ≡ drop n b
 behind [] b n = let z : n + (0 + 1) ≡ suc n = omega arith in ap (λ m. drop m (10 ∷ b)) z
-behind (c ∷ a) b n = let z : n + (suc (length a) + 1) ≡ suc (n + (length a + 1)) = omega arith in ap (λ m. drop m (c ∷ (a ++ 10 ∷ b))) z ∙ behind a b n
+behind (c ∷ a) b n =
+    let z : n + (suc (length a) + 1) ≡ suc (n + (length a + 1)) = omega arith in ap (λ m. drop m (c ∷ (a ++ 10 ∷ b))) z ∙ behind a b n
 
-slice_moved : (a b : List ℕ) (start end : ℕ) → slice_range (a ++ 10 ∷ b) (start + (length a + 1)) (end + (length a + 1)) ≡ slice_range b start end
+slice_moved : (a b : List ℕ) (start end : ℕ)
+    → slice_range (a ++ 10 ∷ b) (start + (length a + 1)) (end + (length a + 1)) ≡ slice_range b start end
 slice_moved a b start end =
     let n = length a + 1 in
     let same : end + n - (start + n) ≡ end - start = omega arith in
