@@ -5,6 +5,7 @@ pub mod OneAnswer
 pub mod EachLaws
 pub mod TreeLaws
 pub mod BothWays
+pub mod ClassCounts
 pub mod ClassTypes
 pub mod ClassInputs
 pub mod TheoremLaws

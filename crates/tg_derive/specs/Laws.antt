@@ -1,6 +1,6 @@
 -- The laws of classes: there is one list of them or one limit that is passed, they cover the specification both ways, and their checks
 -- call the program at their inputs.
-use Rattle.std.specs.Prelude.{ℕ, false, ◌≡◌, List, [], ◌∷◌, Some, None}
+use Rattle.std.specs.Prelude.{ℕ, false, ◌≡◌, ◌≤◌, List, [], ◌∷◌, length, Some, None}
 use Rattle.tg_model.specs.Value.{Value, IsShallow}
 use Rattle.tg_model.specs.Theory.{Theory}
 use Rattle.tg_model.specs.Table.{Table, IsTable}
@@ -25,6 +25,10 @@ IsOneAnswer = (th : Theory) (k : ℕ) (o o' : Worked Class) → Derived th k o �
 -- The classes are those of the split trees of the patterns, whatever the order of work.
 abbrev pub ClassesAreOfTrees : Type 0
 ClassesAreOfTrees = (th : Theory) (k : ℕ) (cs : List Class) → AreClasses th k cs → AreClassesOf th (patterns th k) cs
+
+-- There are at most 4,096, since the clauses are counted that they are made of.
+abbrev pub ClassesAreFew : Type 0
+ClassesAreFew = (th : Theory) (k : ℕ) (cs : List Class) → AreClasses th k cs → length cs ≤ 4096
 
 -- each class is true at the inputs
 abbrev pub AreTrueAt : Theory → Table → List Class → List Value → Type 0

@@ -9,7 +9,7 @@ mod listing;
 mod theorems;
 mod working;
 
-ghost use Rattle.tg_derive.specs.Laws.{IsOneAnswer, ClassesAreOfTrees, ClassesCover, ClassesAreTyped, ConstraintsHaveNoCall, CallsAreAtInputs, TheoremIsTrue, AssumptionsAreNecessary};
+ghost use Rattle.tg_derive.specs.Laws.{IsOneAnswer, ClassesAreOfTrees, ClassesAreFew, ClassesCover, ClassesAreTyped, ConstraintsHaveNoCall, CallsAreAtInputs, TheoremIsTrue, AssumptionsAreNecessary};
 ghost use Rattle.tg_derive.specs.Derivability.{NormalFormsAreDerivable, ClassesAreDerivable, PatternsAreDerivable, ClosedPatternsAreDerivable, EachPatternIsDerivable, CasesAreEnough, TheoremIsDerivable};
 ghost use Rattle.tg_derive.specs.Covering.{CoverIsDerivable};
 
@@ -18,10 +18,11 @@ pub use listing::classes;
 pub use theorems::{Choice, Hypothesis, Label, goal, hypotheses};
 
 /// The work on a theory to a depth comes to one answer: its classes, or the first limit that it passes. The classes are
-/// those of the split trees of the patterns, classes of the theory, and their constraints don't call the program.
+/// those of the split trees of the patterns, at most 4,096 classes of the theory, and their constraints don't call the program.
 pub fn derivation()
     ensures one { IsOneAnswer }
     ensures trees { ClassesAreOfTrees }
+    ensures few { ClassesAreFew }
     ensures typed { ClassesAreTyped }
     ensures no_call { ConstraintsHaveNoCall }
 {}

@@ -1,5 +1,6 @@
 use Rattle.tg_derive.proofs.OneAnswer.{one_answer}
 use Rattle.tg_derive.proofs.TreeLaws.{classes_are_of_trees}
+use Rattle.tg_derive.proofs.ClassCounts.{few_classes}
 use Rattle.tg_derive.proofs.ClassTypes.{classes_typed, no_call_in_constraints}
 use Rattle.tg_derive.proofs.derivation.Goals as goal
 
@@ -8,6 +9,9 @@ returns-clause-one c = one_answer
 
 pub returns-clause-trees : goal.returns-clause-trees
 returns-clause-trees c = classes_are_of_trees
+
+pub returns-clause-few : goal.returns-clause-few
+returns-clause-few c = few_classes
 
 pub returns-clause-typed : goal.returns-clause-typed
 returns-clause-typed c = classes_typed
