@@ -1,3 +1,4 @@
+pub mod BehindTheory
 pub mod HarnessLaws
 pub mod KnownTexts
 mod Lists
