@@ -10,9 +10,15 @@ pub mod Promises
 pub mod RecordLaws
 pub mod RequestLaws
 pub mod SimpleVariables
+pub mod SimulatedRecords
+pub mod Simulations
 pub mod SmallData
+pub mod SmallSettings
 pub mod Sources
+pub mod StandInAnswers
 pub mod StandIns
 pub mod TestLaws
 pub mod TrueTheorems
+pub mod ValuesBack
 pub mod VerdictLaws
+pub mod WrittenTheories

@@ -25,7 +25,7 @@ use Rattle.tg_cmd.proofs.Headline.{headline}
 use Rattle.tg_cmd.proofs.TrueTheorems.{true_theorem}
 
 -- no line in place of a result ends a run that is done
-no_result : (k : Kind) (place : ℕ) → IsResult (answer_for k place) → ⊥
+pub no_result : (k : Kind) (place : ℕ) → IsResult (answer_for k place) → ⊥
 no_result checks.term_size place h = h
 no_result checks.name place h = h
 no_result checks.typing place h = h
@@ -36,7 +36,7 @@ no_result checks.program place h = h
 abbrev is_result : Answer → Answer → Type 0
 is_result a b = IsResult a → IsResult b
 
-moved : (a b : Answer) → a ≡ b → IsResult a → IsResult b
+pub moved : (a b : Answer) → a ≡ b → IsResult a → IsResult b
 moved a b e h = subst IsResult e h
 
 module _ (s : Settings) (range : AreInRange s) (input text : List ℕ) where
@@ -95,7 +95,7 @@ module _ (s : Settings) (range : AreInRange s) (input text : List ℕ) where
   prints_headline answer r (whole short (lexed ts q (a_text v h i g))) =
       of_judged answer r v (record { tokens = ts; lexed = q; shallow = h; text = i }) g
 
-if_some : (P Q : List ℕ → Type 0) → ((input : List ℕ) → P input → Q input) → (o : Option (List ℕ)) → IfSome o P → IfSome o Q
+pub if_some : (P Q : List ℕ → Type 0) → ((input : List ℕ) → P input → Q input) → (o : Option (List ℕ)) → IfSome o P → IfSome o Q
 if_some P Q f None h = tt
 if_some P Q f (Some input) h = f input h
 

@@ -25,7 +25,7 @@ among_front x [] ys h = absurd h
 among_front x (y ∷ xs) ys (inl e) = inl e
 among_front x (y ∷ xs) ys (inr h) = inr (among_front x xs ys h)
 
-distinct_front : (xs ys : List (List ℕ)) → AreDistinct (xs ++ ys) → AreDistinct xs
+pub distinct_front : (xs ys : List (List ℕ)) → AreDistinct (xs ++ ys) → AreDistinct xs
 distinct_front [] ys h = tt
 distinct_front (x ∷ xs) ys h = (λ a. h.0 (among_front x xs ys a), distinct_front xs ys h.1)
 

@@ -1,5 +1,5 @@
--- What is promised of the test theorem that a report prints.
-use Rattle.std.specs.Prelude.{ℕ, suc, ◌≡◌, false, List, [], ◌∷◌, Option, Some, None, map}
+-- What is promised of the test theorem that a report prints, and of the outcomes of a function that stands in.
+use Rattle.std.specs.Prelude.{ℕ, suc, ◌≡◌, false, List, [], ◌∷◌, ◌++◌, Option, Some, None, map}
 use Rattle.tg_model.specs.Theory.{Theory}
 use Rattle.tg_model.specs.Table.{Table, IsTable}
 use Rattle.tg_model.specs.Denotation.{den}
@@ -20,12 +20,19 @@ use Rattle.tg_hyps.specs.Hypotheses.{Class}
 use Rattle.tg_infer.specs.View.{raw_declaration}
 use Rattle.tg_derive.specs.Classes.{AreClasses}
 use Rattle.tg_derive.specs.Theorem.{Choice, theorem_of, assumptions_of}
+use Rattle.tg_cmd.specs.declared.answer.Answer.{Answer}
+use Rattle.tg_cmd.specs.declared.answer.LimitName.TheVariants.{Input, Nesting}
+use Rattle.tg_cmd.specs.Causes.{IsLimit}
 use Rattle.tg_cmd.specs.Data.{choices_by_data}
+use Rattle.tg_harness.specs.OutcomeTexts.{outcomes_text}
 use Rattle.tg_harness.specs.Tests.{Record, record_of}
 use Rattle.tg_cmd.specs.Judging.{recorded, verdict_of, verdicts_from, choices_by_verdicts, HasOutcome}
 use Rattle.tg_cmd.specs.Lines.{report_on, judged_report_on}
-use Rattle.tg_cmd.specs.Output.{tests_of}
+use Rattle.tg_cmd.specs.Output.{tests_of, IsJudgement, IsOutput}
 use Rattle.tg_cmd.specs.Reading.{IsTextOf}
+use Rattle.tg_cmd.specs.Requests.{judge}
+use Rattle.tg_cmd.specs.StandIn.{StandsIn, simulated}
+use Rattle.tg_cmd.specs.Tests.{tests_by_data}
 
 -- The theorem of these classes and choices is true on every table; and on every table where the specification holds, so does each
 -- hypothesis that no test shows, each uniformity, open class and regularity. The theorem has a derivation by the rules of the calculus,
@@ -85,3 +92,24 @@ pub record PrintsHeadline (s : Settings) (input text : List ℕ) : Type 0 where
   pub are_outcomes : AreOutcomes theory s (tests_of s theory classes) read.1 outcomes
   pub printed : text ≡ judged_report_on theory s classes (map record_of outcomes)
   pub headline : IsHeadline theory s.depth classes (choices_by_data theory s classes) (map record_of outcomes)
+
+-- `judge` has judged the classes by just what is recorded, or the input passes the limit of its length or of its nesting.
+pub data IsJudgedBy (s : Settings) (th : Theory) (cs : List Class) (rs : List Record) (answer : Answer) (report : List ℕ) : Type 0 where
+  judged : IsJudgement s th cs rs answer report → IsJudgedBy s th cs rs answer report
+  too_long : IsLimit Input answer report → IsJudgedBy s th cs rs answer report
+  too_nested : IsLimit Nesting answer report → IsJudgedBy s th cs rs answer report
+
+-- The text is that of what is recorded of a function that stands in, on the theory that the input reads as, with its classes. What
+-- `judge` with the same settings has to write of the input and, behind LF, the text is by just what is recorded.
+pub record PrintsOutcomes (name : List ℕ) (s : Settings) (input text : List ℕ) : Type 0 where
+  pub read : RawTheory
+  pub theory : Theory
+  pub classes : List Class
+  pub function : ℕ
+  pub reads : IsTextOf parts.Theory input read
+  pub accepted : IsTheoryOf read.name nothing (map raw_declaration read.decls) theory
+  pub are_classes : AreClasses theory s.depth classes
+  pub stands_in : StandsIn theory name function
+  pub printed : text ≡ outcomes_text theory s (simulated theory function (tests_by_data theory s classes))
+  pub judged_by : (answer : Answer) (report : List ℕ) → IsOutput (judge s) (input ++ 10 ∷ text) answer report
+      → IsJudgedBy s theory classes (simulated theory function (tests_by_data theory s classes)) answer report

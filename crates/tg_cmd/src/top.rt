@@ -1,10 +1,10 @@
-ghost use Rattle.std.specs.Prelude.{◌≡◌, ◌↔◌, IfSome};
+ghost use Rattle.std.specs.Prelude.{◌≡◌, ◌↔◌, ℕ, List, IfSome};
 ghost use Rattle.tg_io.specs.Faults.{Rose};
 ghost use Rattle.tg_io.specs.Whole.{written_of};
 ghost use Rattle.tg_types.specs.declared.options.Settings.{Settings};
-ghost use Rattle.tg_cmd.specs.Requests.{Request, generate, judge, ReadsWords, IsCommand};
+ghost use Rattle.tg_cmd.specs.Requests.{Request, generate, judge, simulate, ReadsWords, IsCommand};
 ghost use Rattle.tg_cmd.specs.Output.{HasBytes, Completes, IsResult, IsSilent, IsWriteFault, IsWritten};
-ghost use Rattle.tg_cmd.specs.Promises.{PrintsTheorem, PrintsHeadline};
+ghost use Rattle.tg_cmd.specs.Promises.{PrintsTheorem, PrintsHeadline, PrintsOutcomes};
 
 use crate::answer::{Answer, Ending};
 use crate::output::make_output;
@@ -38,6 +38,10 @@ use tg_types::Name;
 /// is. Where `judge` has answered `Done` or `TestsFailed`, the specification holds on every finite table that
 /// has the outcomes that are judged passed and on which these hypotheses hold, and an outcome that is judged
 /// failed refutes it. (HOL-TestGen's test theorem, after Brucker and Wolff.)
+///
+/// Where `simulate` has answered `Done`, what it wrote is read by `judge` with the same settings, behind the theory and LF, as
+/// just what the function answers that stands in: nothing is refused. Only a limit, `Input` or `Nesting`, can be passed by both
+/// together.
 pub fn run<S: Source, K: Sink>(
     alloc: Global,
     words: &[Name],
@@ -53,6 +57,7 @@ pub fn run<S: Source, K: Sink>(
     ensures complete { (r : Request) → ReadsWords words.now r → IfSome (S.left source.old) (λ input. Completes r input result) }
     ensures theorem { (s : Settings) → ReadsWords words.now (generate s) → result ≡ Answer.Done → IsWritten (PrintsTheorem s) (S.left source.old) (K.written sink.old) (K.written sink.new) }
     ensures headline { (s : Settings) → ReadsWords words.now (judge s) → IsResult result → IsWritten (PrintsHeadline s) (S.left source.old) (K.written sink.old) (K.written sink.new) }
+    ensures simulated { (name : List ℕ) → (s : Settings) → ReadsWords words.now (simulate name s) → result ≡ Answer.Done → IsWritten (PrintsOutcomes name s) (S.left source.old) (K.written sink.old) (K.written sink.new) }
     ensures bytes { (r : Request) → ReadsWords words.now r → HasBytes r result (S.left source.old) (S.left source.new) (K.written sink.old) (K.written sink.new) }
 {
     let request = match request_of(words) {
