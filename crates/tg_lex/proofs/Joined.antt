@@ -43,10 +43,10 @@ closes_on [] (c ∷ r) = refl
 closes_on (b ∷ []) r = neither (b == 42)
 closes_on (b ∷ c ∷ bytes) r = refl
 
-abbrev ways : Bool → Bool → Option (List ℕ) → Option (List ℕ) → Option (List ℕ) → Option (List ℕ)
+abbrev pub ways : Bool → Bool → Option (List ℕ) → Option (List ℕ) → Option (List ℕ) → Option (List ℕ)
 ways o c x y z = elim o [ true ↦ x | false ↦ elim c [ true ↦ y | false ↦ z ] ]
 
-each_way : (o c : Bool) (x y z x' y' z' : Option (List ℕ)) (rest rest' : List ℕ) → (x ≡ Some rest → x' ≡ Some rest')
+pub each_way : (o c : Bool) (x y z x' y' z' : Option (List ℕ)) (rest rest' : List ℕ) → (x ≡ Some rest → x' ≡ Some rest')
     → (y ≡ Some rest → y' ≡ Some rest')
     → (z ≡ Some rest → z' ≡ Some rest') → ways o c x y z ≡ Some rest → ways o c x' y' z' ≡ Some rest'
 each_way true c x y z x' y' z' rest rest' f g h e = f e
@@ -79,7 +79,7 @@ comment_on bytes r rest e =
 
 -- ---- no token has LF in it
 
-abbrev is_other : ℕ → Bool
+abbrev pub is_other : ℕ → Bool
 is_other b = not (b == 10)
 
 not_line : (test : ℕ → Bool) → test 10 ≡ false → (b : ℕ) → test b ≡ true → is_other b ≡ true
@@ -106,7 +106,7 @@ word_other (b ∷ bs) e =
     let parts = and_parts (is_letter b) (list_all is_name_byte bs) e in
     both_true (is_other b) (list_all is_other bs) (not_line is_letter refl b parts.0) (all_other is_name_byte refl bs parts.1)
 
-no_line : (kind : Kind) (text : List ℕ) → Spells kind text → list_all is_other text ≡ true
+pub no_line : (kind : Kind) (text : List ℕ) → Spells kind text → list_all is_other text ≡ true
 no_line kind [] s = refl
 no_line Word (b ∷ bs) s = word_other (b ∷ bs) s
 no_line TyVar (b ∷ bs) s =
@@ -115,7 +115,7 @@ no_line TyVar (b ∷ bs) s =
 no_line Number (b ∷ bs) s = all_other is_digit refl (b ∷ bs) s
 no_line (Sym code) (b ∷ bs) s = in_table (λ t. list_all is_other t) symbol_list (b ∷ bs) code symbols_other s
 
-before_line : (bytes r : List ℕ) (n : ℕ) → list_all is_other (take n (bytes ++ 10 ∷ r)) ≡ true → n ≤ length bytes
+pub before_line : (bytes r : List ℕ) (n : ℕ) → list_all is_other (take n (bytes ++ 10 ∷ r)) ≡ true → n ≤ length bytes
 before_line bytes r zero e = omega arith
 before_line [] r (suc n) e = absurd cc
 before_line (b ∷ bytes) r (suc n) e =
@@ -161,7 +161,7 @@ total_on (p ∷ ps) qs = omega (arith, total_on ps qs)
 
 -- ---- their tokens
 
-tokens_moved : (at n : ℕ) (qs : List Part) → tokens_from (at + n) qs ≡ map (moved n) (tokens_from at qs)
+pub tokens_moved : (at n : ℕ) (qs : List Part) → tokens_from (at + n) qs ≡ map (moved n) (tokens_from at qs)
 tokens_moved at n [] = refl
 tokens_moved at n (parts.Skip size ∷ qs) =
     let same : at + n + size ≡ at + size + n = omega arith in

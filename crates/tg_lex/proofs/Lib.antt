@@ -9,3 +9,4 @@ pub mod Runs
 pub mod Effects
 pub mod Ends
 pub mod Joined
+pub mod Following

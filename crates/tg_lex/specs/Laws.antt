@@ -1,5 +1,5 @@
 -- Laws of the grammar of tokens, over all texts.
-use Rattle.std.specs.Prelude.{◌≡◌, ◌⊎◌, ℕ, ◌+◌, List, ◌∷◌, ◌++◌, length, map, All}
+use Rattle.std.specs.Prelude.{◌≡◌, ◌⊎◌, ℕ, ◌+◌, List, [], ◌∷◌, ◌++◌, length, map, All}
 use Rattle.tg_lex.specs.declared.token.Token.{Token}
 use Rattle.tg_lex.specs.declared.part.Fault.{Fault}
 use Rattle.tg_lex.specs.Grammar.{token, Reads, ReadsTo, FailsAt, IsTokenOf, Rises}
@@ -39,3 +39,12 @@ moved n t = token t.kind (t.start + n) (t.end + n)
 -- the tokens of two texts with LF between them are those of the one and then those of the other
 abbrev pub ReadingsJoin : Type 0
 ReadingsJoin = (a b : List ℕ) (ts us : List Token) → Reads a ts → Reads b us → Reads (a ++ 10 ∷ b) (ts ++ map (moved (length a + 1)) us)
+
+-- the last byte is an LF
+abbrev pub EndsInLine : List ℕ → Type 0
+EndsInLine bytes = (front : List ℕ) × (bytes ≡ front ++ 10 ∷ [])
+
+-- and so are the tokens of two texts of which the first ends in LF
+abbrev pub ReadingsFollow : Type 0
+ReadingsFollow = (a b : List ℕ) (ts us : List Token) → EndsInLine a → Reads a ts → Reads b us
+    → Reads (a ++ b) (ts ++ map (moved (length a)) us)

@@ -1,4 +1,4 @@
-ghost use Rattle.tg_lex.specs.Laws.{HasReadingOrFault, HasOneReading, HasOneFault, HasNotBoth, HasTexts, HasRisingSpans, ReadingsJoin};
+ghost use Rattle.tg_lex.specs.Laws.{HasReadingOrFault, HasOneReading, HasOneFault, HasNotBoth, HasTexts, HasRisingSpans, ReadingsJoin, ReadingsFollow};
 
 /// A text has one list of tokens or one first fault, and not both. It stands on the grammar alone.
 pub fn readings()
@@ -14,7 +14,8 @@ pub fn fronts()
     ensures rise { HasRisingSpans }
 {}
 
-/// Two texts with LF between them have the tokens of both.
+/// Two texts with LF between them have the tokens of both, and so have two texts of which the first ends in LF.
 pub fn joins()
-    ensures { ReadingsJoin }
+    ensures between { ReadingsJoin }
+    ensures follow { ReadingsFollow }
 {}
