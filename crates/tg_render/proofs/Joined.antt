@@ -6,11 +6,12 @@ use Rattle.std.proofs.lemmas.List.Elements.{All-head, All-tail}
 use Rattle.tg_lex.specs.declared.token.Token.{Token}
 use Rattle.tg_lex.specs.Grammar.{IsTokenOf}
 use Rattle.tg_lex.specs.Laws.{moved}
+use Rattle.tg_lex.proofs.Following.{readings_follow}
 use Rattle.tg_lex.proofs.Joined.{drop_on, take_on, readings_join}
 use Rattle.tg_lex.proofs.Runs.{texts}
 use Rattle.tg_grammar.specs.Seen.{Seen, kind_of, value_of, seen_token, seen}
 use Rattle.tg_grammar.specs.Words.{version_one}
-use Rattle.tg_render.specs.Laws.{TextsAreJoined}
+use Rattle.tg_render.specs.Laws.{TextsAreJoined, TextsFollow}
 
 -- ---- slices
 
@@ -30,6 +31,17 @@ slice_moved a b start end =
     let n = length a + 1 in
     let same : end + n - (start + n) ≡ end - start = omega arith in
     ap (λ m. take m (drop (start + n) (a ++ 10 ∷ b))) same ∙ ap (take (end - start)) (behind a b start)
+
+past : (a b : List ℕ) (n : ℕ) → drop (n + length a) (a ++ b) ≡ drop n b
+past [] b n = let z : n + 0 ≡ n = omega arith in ap (λ m. drop m b) z
+past (c ∷ a) b n =
+    let z : n + suc (length a) ≡ suc (n + length a) = omega arith in ap (λ m. drop m (c ∷ (a ++ b))) z ∙ past a b n
+
+slice_past : (a b : List ℕ) (start end : ℕ) → slice_range (a ++ b) (start + length a) (end + length a) ≡ slice_range b start end
+slice_past a b start end =
+    let n = length a in
+    let same : end + n - (start + n) ≡ end - start = omega arith in
+    ap (λ m. take m (drop (start + n) (a ++ b))) same ∙ ap (take (end - start)) (past a b start)
 
 -- ---- tokens
 
@@ -55,4 +67,18 @@ texts_joined a b ts us (v, r, e) (w, q, f) = (
   readings_join a b v w r q,
   map-append (seen_token version_one (a ++ 10 ∷ b)) v (map (moved (length a + 1)) w)
       ∙ (λ i. (front a (10 ∷ b) v (texts a v (length a) r) ∙ e) i ++ (rest a b w ∙ f) i),
+)
+
+rest_past : (a b : List ℕ) (us : List Token) → seen (a ++ b) (map (moved (length a)) us) ≡ seen b us
+rest_past a b [] = refl
+rest_past a b (t ∷ us) =
+    let first = slice_past a b t.start t.end in
+    λ i. seen_by t (first i) ∷ rest_past a b us i
+
+pub texts_follow : TextsFollow
+texts_follow a b ts us ends (v, r, e) (w, q, f) = (
+  v ++ map (moved (length a)) w,
+  readings_follow a b v w ends r q,
+  map-append (seen_token version_one (a ++ b)) v (map (moved (length a)) w)
+      ∙ (λ i. (front a b v (texts a v (length a) r) ∙ e) i ++ (rest_past a b w ∙ f) i),
 )

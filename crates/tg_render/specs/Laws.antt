@@ -2,6 +2,7 @@
 use Rattle.std.specs.Prelude.{◌≡◌, ℕ, ◌<◌, ◌^◌, IsTrue, List, [], ◌∷◌, ◌++◌}
 use Rattle.tg_lex.specs.declared.token.Token.{Token}
 use Rattle.tg_lex.specs.Grammar.{Reads, is_word}
+use Rattle.tg_lex.specs.Laws.{EndsInLine}
 use Rattle.tg_grammar.specs.Seen.{Seen, seen}
 use Rattle.tg_render.specs.Render.{render, lines}
 use Rattle.tg_render.specs.Tokens.{name, numeral, joined, IsProper, AreProper}
@@ -25,6 +26,10 @@ AreLinesLexedBack = (tss : List (List Seen)) → AreAllProper tss → HasTokens 
 -- The tokens of two texts with LF between them are those of the one and then those of the other.
 abbrev pub TextsAreJoined : Type 0
 TextsAreJoined = (a b : List ℕ) (ts us : List Seen) → HasTokens a ts → HasTokens b us → HasTokens (a ++ 10 ∷ b) (ts ++ us)
+
+-- So are those of two texts of which the first ends in LF.
+abbrev pub TextsFollow : Type 0
+TextsFollow = (a b : List ℕ) (ts us : List Seen) → EndsInLine a → HasTokens a ts → HasTokens b us → HasTokens (a ++ b) (ts ++ us)
 
 -- Two lists of proper tokens with one text are equal.
 abbrev pub TellsTokens : Type 0
