@@ -31,7 +31,7 @@ use Rattle.tg_model.specs.Accepted.{IsAccepted, AreDistinct, constructor_names}
 use Rattle.tg_model.specs.Theory.{Theory}
 use Rattle.tg_render.specs.Laws.{HasTokens}
 use Rattle.tg_render.specs.Tokens.{joined}
-use Rattle.tg_render.proofs.Joined.{texts_joined}
+use Rattle.tg_render.proofs.Joined.{texts_joined, texts_follow}
 use Rattle.tg_theory.specs.Wholes.{IsWritten as HasNames}
 use Rattle.tg_types.specs.declared.options.Settings.{Settings}
 use Rattle.tg_verdict.specs.Records.{AreOutcomes}
@@ -45,7 +45,7 @@ use Rattle.tg_cmd.specs.Judging.{verdicts_from}
 use Rattle.tg_cmd.specs.Lines.{judged_report_on}
 use Rattle.tg_cmd.specs.Output.{limited, classes, OfTheory, OfStandIn, none, stands_in, IsJudgement, ending_on, tests_of, read, Judged, IsOutput, IsWritten}
 use Rattle.tg_cmd.specs.Promises as promises
-use Rattle.tg_cmd.specs.Promises.{IsJudgedBy, PrintsOutcomes}
+use Rattle.tg_cmd.specs.Promises.{IsJudgedBy, IsBehind, PrintsOutcomes}
 use Rattle.tg_cmd.specs.Reading.{IsTextOf}
 use Rattle.tg_cmd.specs.Requests.{judge, simulate}
 use Rattle.tg_cmd.specs.StandIn.{StandsIn, simulated}
@@ -167,15 +167,24 @@ module _ (name : List ℕ) (s : Settings) (range : AreInRange s) (small : AreSma
         let named = texts_are_named.alone input reads.tokens raw (texts input reads.tokens (length input) reads.lexed) reads.text in
         theory_is_written raw.name (map raw_declaration raw.decls) th named.name named.declared is
 
-    both_judged : (answer : Answer) (report : List ℕ) → IsOutput (judge s) (input ++ 10 ∷ text) answer report
+    tokens_behind : (bytes : List ℕ) → IsBehind input text bytes → HasTokens text outcome_tokens
+        → HasTokens bytes (theory_tokens ++ outcome_tokens)
+    tokens_behind bytes (inl e) h =
+        subst (λ b. HasTokens b (theory_tokens ++ outcome_tokens)) (sym e)
+        (texts_joined input text theory_tokens outcome_tokens (reads.tokens, reads.lexed, refl) h)
+    tokens_behind bytes (inr (ends, e)) h =
+        subst (λ b. HasTokens b (theory_tokens ++ outcome_tokens)) (sym e)
+        (texts_follow input text theory_tokens outcome_tokens ends (reads.tokens, reads.lexed, refl) h)
+
+    both_judged : (bytes : List ℕ) → IsBehind input text bytes → (answer : Answer) (report : List ℕ)
+        → IsOutput (judge s) bytes answer report
         → IsJudgedBy s th cs what answer report
-    both_judged answer report other =
+    both_judged bytes behind answer report other =
         let outcomes = text_of s range small th accepted_theory cs are name n h names in
-        let both = texts_joined input text theory_tokens outcome_tokens (reads.tokens, reads.lexed, refl)
-        (subst (λ b. HasTokens b outcome_tokens) (sym says) outcomes.0) in
+        let both = tokens_behind bytes behind (subst (λ b. HasTokens b outcome_tokens) (sym says) outcomes.0) in
         let v = value s range small th accepted_theory cs are name n h raw is in
         let whole_text = behind_theory v theory_tokens outcome_tokens reads.text outcomes.1 in
-        judged_in s range small th accepted_theory cs are name n h raw is (input ++ 10 ∷ text) both.0 both.1
+        judged_in s range small th accepted_theory cs are name n h raw is bytes both.0 both.1
         (subst (IsText parts.Judge v) (sym both.2) whole_text) answer report other
 
   of_raw : (raw : RawTheory) → IsTextOf parts.Theory input raw → OfTheory (OfStandIn name) s raw Done text

@@ -1,5 +1,5 @@
 -- What is promised of the test theorem that a report prints, and of the outcomes of a function that stands in.
-use Rattle.std.specs.Prelude.{ℕ, suc, ◌≡◌, false, List, [], ◌∷◌, ◌++◌, Option, Some, None, map}
+use Rattle.std.specs.Prelude.{ℕ, suc, ◌≡◌, false, ◌⊎◌, List, [], ◌∷◌, ◌++◌, Option, Some, None, map}
 use Rattle.tg_model.specs.Theory.{Theory}
 use Rattle.tg_model.specs.Table.{Table, IsTable}
 use Rattle.tg_model.specs.Denotation.{den}
@@ -31,6 +31,7 @@ use Rattle.tg_cmd.specs.Lines.{report_on, judged_report_on}
 use Rattle.tg_cmd.specs.Output.{tests_of, IsJudgement, IsOutput}
 use Rattle.tg_cmd.specs.Reading.{IsTextOf}
 use Rattle.tg_cmd.specs.Requests.{judge}
+use Rattle.tg_lex.specs.Laws.{EndsInLine}
 use Rattle.tg_cmd.specs.StandIn.{StandsIn, simulated}
 use Rattle.tg_cmd.specs.Tests.{tests_by_data}
 
@@ -99,8 +100,12 @@ pub data IsJudgedBy (s : Settings) (th : Theory) (cs : List Class) (rs : List Re
   too_long : IsLimit Input answer report → IsJudgedBy s th cs rs answer report
   too_nested : IsLimit Nesting answer report → IsJudgedBy s th cs rs answer report
 
+-- the text behind the input, on a line of its own: LF stands between them, or ends the input
+abbrev pub IsBehind : List ℕ → List ℕ → List ℕ → Type 0
+IsBehind input text whole = (whole ≡ input ++ 10 ∷ text) ⊎ (EndsInLine input × (whole ≡ input ++ text))
+
 -- The text is that of what is recorded of a function that stands in, on the theory that the input reads as, with its classes. What
--- `judge` with the same settings has to write of the input and, behind LF, the text is by just what is recorded.
+-- `judge` with the same settings has to write of the input with the text behind it is by just what is recorded.
 pub record PrintsOutcomes (name : List ℕ) (s : Settings) (input text : List ℕ) : Type 0 where
   pub read : RawTheory
   pub theory : Theory
@@ -111,5 +116,6 @@ pub record PrintsOutcomes (name : List ℕ) (s : Settings) (input text : List �
   pub are_classes : AreClasses theory s.depth classes
   pub stands_in : StandsIn theory name function
   pub printed : text ≡ outcomes_text theory s (simulated theory function (tests_by_data theory s classes))
-  pub judged_by : (answer : Answer) (report : List ℕ) → IsOutput (judge s) (input ++ 10 ∷ text) answer report
+  pub judged_by : (whole : List ℕ) → IsBehind input text whole → (answer : Answer) (report : List ℕ)
+      → IsOutput (judge s) whole answer report
       → IsJudgedBy s theory classes (simulated theory function (tests_by_data theory s classes)) answer report

@@ -39,9 +39,9 @@ use tg_types::Name;
 /// has the outcomes that are judged passed and on which these hypotheses hold, and an outcome that is judged
 /// failed refutes it. (HOL-TestGen's test theorem, after Brucker and Wolff.)
 ///
-/// Where `simulate` has answered `Done`, what it wrote is read by `judge` with the same settings, behind the theory and LF, as
-/// just what the function answers that stands in: nothing is refused. Only a limit, `Input` or `Nesting`, can be passed by both
-/// together.
+/// Where `simulate` has answered `Done`, what it wrote is read by `judge` with the same settings, on a line of its own behind the
+/// theory, as just what the function answers that stands in: nothing is refused. Only a limit, `Input` or `Nesting`, can be passed
+/// by both together.
 pub fn run<S: Source, K: Sink>(
     alloc: Global,
     words: &[Name],
