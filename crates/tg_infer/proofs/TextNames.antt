@@ -288,4 +288,5 @@ pub texts_are_named : TextsAreNamed
 texts_are_named = record {
   alone = λ bytes tokens v h r. is_named v (within r.0 parts.Theory v (seen bytes tokens) r.1 (tokens_named bytes tokens h));
   judged = λ bytes tokens v h r. is_named v.0 (within r.0 parts.Judge v (seen bytes tokens) r.1 (tokens_named bytes tokens h));
+  checked = λ bytes tokens v h r. is_named v.0 (within r.0 parts.Check v (seen bytes tokens) r.1 (tokens_named bytes tokens h));
 }

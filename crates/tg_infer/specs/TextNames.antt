@@ -17,8 +17,9 @@ pub record IsNamed (theory : RawTheory) : Type 0 where
   pub name : IsName theory.name
   pub declared : AreNamed (map raw_declaration theory.decls)
 
--- the theory of a text by itself, and of one with outcomes
+-- the theory of a text by itself, of one with outcomes, and of one with a certificate
 pub record TextsAreNamed : Type 0 where
   pub alone : (bytes : List ℕ) (tokens : List Token) (theory : RawTheory) → All (IsTokenOf bytes) tokens → IsText Theory theory (seen bytes tokens)
       → IsNamed theory
   pub judged : (bytes : List ℕ) (tokens : List Token) (text : Value Judge) → All (IsTokenOf bytes) tokens → IsText Judge text (seen bytes tokens) → IsNamed text.0
+  pub checked : (bytes : List ℕ) (tokens : List Token) (text : Value Check) → All (IsTokenOf bytes) tokens → IsText Check text (seen bytes tokens) → IsNamed text.0

@@ -128,7 +128,7 @@ fn within_range(number: u64) -> Result<u32, AllocError>
 }
 
 /// The item of a number, from 1.
-pub(crate) fn item<T>(items: &[T], number: u32) -> Option<&T>
+pub(crate) fn item<T>(items: &[T], number: u64) -> Option<&T>
     ensures { option_copied result ≡ numbered items.now number }
 {
     items.get((number as usize).checked_sub(1)?)

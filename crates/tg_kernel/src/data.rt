@@ -24,7 +24,7 @@ use tg_types::{DataId, Ty};
 
 /// What follows however a variable of a datatype is made holds; a premise for each constructor.
 #[tactic(auto, using(crate::proofs::DataLaws::exhausting))]
-pub(crate) fn exhaust(alloc: Global, th: &Theory, n: u32, ps: &[Sequent]) -> Drafted
+pub(crate) fn exhaust(alloc: Global, th: &Theory, n: u64, ps: &[Sequent]) -> Drafted
     ensures { IfOk result (Drafts th.now (calculus.exhaust n) (map sequent ps.now)) }
 {
     let Some(p) = ps.first() else {
@@ -33,6 +33,7 @@ pub(crate) fn exhaust(alloc: Global, th: &Theory, n: u32, ps: &[Sequent]) -> Dra
     let Some((d, us)) = datatype_of(&p.vars, n) else {
         return Ok(None);
     };
+    let n = u32::try_from(n).map_err(|_| AllocError)?;
     let cases = cases_of(alloc, th, d, us)?;
     let first = first_constructor(th.declarations(), d)?;
     let draft = exhausted(alloc, n, first, cases.as_slice(), p, ps)?;
@@ -41,7 +42,7 @@ pub(crate) fn exhaust(alloc: Global, th: &Theory, n: u32, ps: &[Sequent]) -> Dra
 
 /// The datatype of a variable, and its arguments.
 #[tactic(auto, using(crate::proofs::DataLaws::looking))]
-fn datatype_of(vars: &Context, n: u32) -> Option<(DataId, &[Ty])>
+fn datatype_of(vars: &Context, n: u64) -> Option<(DataId, &[Ty])>
     ensures { option_map (λ p. (p.0, types p.1.now)) result ≡ and_then (numbered vars.now n) as_data }
 {
     data_of(item(vars.types(), n)?)

@@ -58,7 +58,7 @@ pub enum Rule {
     /// What the row of a number makes of the term.
     Schema(Context, SchemaId, Term),
     /// The cases of the variable of a number.
-    Exhaust(u32),
+    Exhaust(u64),
     /// The inputs are deeper than the number.
     Deep(Context, u64, Items<Term>),
     /// The term computes to True.

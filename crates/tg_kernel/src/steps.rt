@@ -228,7 +228,7 @@ impl<'a> Book<'a> {
         ensures ok { IfOk result (Appends self.old self.new (by (calculus.exhaust n) (numbers lines.now))) }
         ensures kept { OnErr result (self.new ≡ self.old) }
     {
-        self.by_all(Rule::Exhaust(n), lines)
+        self.by_all(Rule::Exhaust(u64::from(n)), lines)
     }
 
     /// Some of the inputs is deeper than the number.

@@ -1,0 +1,5 @@
+pub mod Arguments
+pub mod Lines
+pub mod Certificates
+pub mod Code
+pub mod Laws
