@@ -5,3 +5,4 @@ pub mod Unique
 pub mod LineLaws
 pub mod CertificateLaws
 pub mod CheckLaws
+pub mod WritingLaws

@@ -3,3 +3,4 @@ pub mod Lines
 pub mod Certificates
 pub mod Code
 pub mod Laws
+pub mod CertificateTexts
