@@ -91,13 +91,13 @@ module _ (th : Theory) where
       pub goes_on : Takes b c r true → AreChecked th (take (i + 1) rs) c
       goes_on t =
           let e = t.0 in
-          let entry : IsEntry th (sequents b.entries) r e = subst (λ (x : Theory). IsEntry x (sequents b.entries) r e) h.theory t.1.0 in
+          let entry : IsEntry th (sequents b.entries) r e = subst (λ (x : Theory). IsEntry x (sequents b.entries) r e) h.theory t.1 in
           let list : AreEntries th [] (take i rs ++ r ∷ []) (b.entries ++ e ∷ []) = more [] (take i rs) b.entries r e h.entries entry in
           record {
-            theory = t.1.1.0 ∙ h.theory;
+            theory = t.2 ∙ h.theory;
             entries =
                 subst (λ (l : List RawLine). AreEntries th [] l c.entries) (sym (ap (λ k. take k rs) (add-one i) ∙ take_next rs i r at))
-                (subst (AreEntries th [] (take i rs ++ r ∷ [])) (sym t.1.1.1) list);
+                (subst (AreEntries th [] (take i rs ++ r ∷ [])) (sym t.3) list);
           }
 
       pub stops : (n m : ℕ) → Takes b c r false → m ≡ length c.entries → n ≡ m + 1 → FailsAt th rs n
@@ -126,7 +126,7 @@ module _ (th : Theory) where
     pub proves : (n : ℕ) → n ≡ length b.entries → (s : Sequent) → numbered (sequents b.entries) n ≡ Some s → Proves th rs s
     proves n is s at =
         let p = last b.entries n is at in
-        record { before = p.0; last = p.1.0; lines = subst (AreEntries th [] rs) p.1.1.0 all_of; is = p.1.1.1 }
+        record { before = p.0; last = p.1; lines = subst (AreEntries th [] rs) p.2 all_of; is = p.3 }
       where
         here : (e : Entry) (es : List Entry) (k : ℕ) → k ≡ length es → slice_get (sequents (e ∷ es)) k ≡ Some s
             → (before : List Entry) × (x : Entry) × (e ∷ es ≡ before ++ x ∷ []) × (x.sequent ≡ s)
@@ -135,7 +135,7 @@ module _ (th : Theory) where
         here e (y ∷ es) zero q f = cc q
         here e (y ∷ es) (suc k) q f =
             let r : k ≡ length es = cc q in
-            let p = here y es k r f in (e ∷ p.0, p.1.0, ap (λ (l : List Entry). e ∷ l) p.1.1.0, p.1.1.1)
+            let p = here y es k r f in (e ∷ p.0, p.1, ap (λ (l : List Entry). e ∷ l) p.2, p.3)
 
         last : (es : List Entry) (n : ℕ) → n ≡ length es → numbered (sequents es) n ≡ Some s
             → (before : List Entry) × (x : Entry) × (es ≡ before ++ x ∷ []) × (x.sequent ≡ s)

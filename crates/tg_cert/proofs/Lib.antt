@@ -6,3 +6,7 @@ pub mod LineLaws
 pub mod CertificateLaws
 pub mod CheckLaws
 pub mod WritingLaws
+pub mod CoreBack
+pub mod NamesBack
+pub mod TermsBack
+pub mod FormulasBack
