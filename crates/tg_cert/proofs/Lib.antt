@@ -10,3 +10,4 @@ pub mod CoreBack
 pub mod NamesBack
 pub mod TermsBack
 pub mod FormulasBack
+pub mod LinesBack

@@ -4,3 +4,4 @@ pub mod Certificates
 pub mod Code
 pub mod Laws
 pub mod CertificateTexts
+pub mod ReadBack
