@@ -11,3 +11,4 @@ pub mod NamesBack
 pub mod TermsBack
 pub mod FormulasBack
 pub mod LinesBack
+pub mod CertificateReading

@@ -42,7 +42,7 @@ use Rattle.tg_cert.proofs.FormulasBack.{type_stands, term_stands, formula_stands
 
 -- ---- the rows' names
 
-abbrev IsNamed : ℕ → Type 0
+abbrev pub IsNamed : ℕ → Type 0
 IsNamed k = IsRowOf (row_name k) k
 
 abbrev AreNamed : ℕ → List Row → Type 0
@@ -67,15 +67,15 @@ row_named th k t u e = then_found (numbered (rows th) k) (λ f. f t) u e (λ f a
 -- ---- what a rule asks of its arguments
 
 module _ (th : Theory) where
-  abbrev MayBeFormula : Context → Option Formula → Type 0
+  abbrev pub MayBeFormula : Context → Option Formula → Type 0
   MayBeFormula G None = Unit {0}
   MayBeFormula G (Some F) = IsFormula th G F
 
-  abbrev EachTyped : Context → List Tree → Type 0
+  abbrev pub EachTyped : Context → List Tree → Type 0
   EachTyped G [] = Unit {0}
   EachTyped G (t ∷ ts) = ((T : Ty) × IsTerm th G t T) × EachTyped G ts
 
-  abbrev MayBeRow : Option ℕ → Type 0
+  abbrev pub MayBeRow : Option ℕ → Type 0
   MayBeRow None = Unit {0}
   MayBeRow (Some k) = IsNamed k
 
@@ -86,7 +86,7 @@ module _ (th : Theory) where
     pub row : MayBeRow a.row
 
   -- the context of the first premise, or the types
-  abbrev read_in : List Sequent → List Ty → Context
+  abbrev pub read_in : List Sequent → List Ty → Context
   read_in [] types = types
   read_in (p ∷ ps) types = p.vars
 
@@ -105,7 +105,7 @@ module _ (th : Theory) where
   all_typed G (tree.more t ts) [] h = absurd h
   all_typed G (tree.more t ts) (u ∷ us) h = ((u, h.0), all_typed G ts us h.1)
 
-  fits : IsAccepted th → (r : Rule) (ps : List Sequent) (s : Sequent) → Step th r ps s → Fit (read_in ps (arguments_in r).types) (arguments_in r)
+  pub fits : IsAccepted th → (r : Rule) (ps : List Sequent) (s : Sequent) → Step th r ps s → Fit (read_in ps (arguments_in r).types) (arguments_in r)
   fits ok r ps s (step.hyp {G} {F} c f) = record { types = c; formula = f; terms = tt; row = tt }
   fits ok r ps s (step.weak {G} {H} {F} {Q} f) = with_formula G F f
   fits ok r ps s (step.cut {G} {H} {K} {F} {Q}) = plain G

@@ -11,5 +11,5 @@ mod writing;
 
 pub use checking::check;
 pub use errors::CertErr;
-pub use laws::certificates;
+pub use laws::{certificates, read_back};
 pub use writing::write;
