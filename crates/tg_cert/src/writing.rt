@@ -1,6 +1,6 @@
 //! Certificates as they are written.
 ghost use Rattle.std.specs.Prelude.{◌≡◌, ◌∷◌, ◌++◌, [], IfOk, OnOk, drop, map, take};
-ghost use Rattle.tg_calculus.specs.Book as book;
+ghost use Rattle.tg_calculus.specs.Book as calculus;
 ghost use Rattle.tg_cert.specs.CertificateTexts.{certificate_lines, context_tokens, first_tokens, last_tokens, line_tokens, lines_from, numerals, row_name, rule_text};
 ghost use Rattle.tg_kernel.specs.Entries.{IsThere, number};
 ghost use Rattle.tg_kernel.specs.Rules.{as_line, as_rule};
@@ -23,7 +23,7 @@ use tg_types::Ty;
 #[tactic(auto, using(crate::proofs::WritingLaws::writing))]
 pub fn write(alloc: Global, book: &Book<'_>, last: Thm) -> Result<Vec<u8>, AllocError>
     requires { IsThere book.now last }
-    ensures { IfOk result (λ text. text.items ≡ lines (certificate_lines book.now.theory (take (number last) (book.lines book.now.entries)))) }
+    ensures { IfOk result (λ text. text.items ≡ lines (certificate_lines book.now.theory (take (number last) (calculus.lines book.now.entries)))) }
 {
     let mut out = Vec::new(alloc);
     put_token(&mut out, b"certificate")?;
@@ -40,7 +40,7 @@ pub fn write(alloc: Global, book: &Book<'_>, last: Thm) -> Result<Vec<u8>, Alloc
 #[tactic(auto, using(crate::proofs::WritingLaws::lines))]
 fn put_lines(out: &mut Vec<u8>, book: &Book<'_>, last: Thm) -> Result<(), AllocError>
     requires { IsThere book.now last }
-    ensures { OnOk result (out.new.items ≡ written_lines out.old.items (lines_from book.now.theory 1 (take (number last) (book.lines book.now.entries)))) }
+    ensures { OnOk result (out.new.items ≡ written_lines out.old.items (lines_from book.now.theory 1 (take (number last) (calculus.lines book.now.entries)))) }
 {
     for n in 0..last.0 {
         put_line(out, book.theory(), n + 1, book.line(Thm(n + 1)))?;
