@@ -13,7 +13,9 @@ use Rattle.tg_infer.specs.Words.{AreWordsOf}
 use Rattle.tg_kernel.specs.Books.{Book, with_line, IsAppended, IsNone, IsTrueEverywhere}
 use Rattle.tg_cert.specs.Lines.{Says}
 use Rattle.tg_cert.specs.Certificates.{IsEntry, AreEntries, Proves, FailsAt}
-use Rattle.tg_cert.specs.Code.{Takes, AreChecked}
+use Rattle.tg_cert.specs.Code.{Takes, AreChecked, Refuses, IsWithoutLine}
+use Rattle.tg_cert.specs.declared.errors.CertErr.{CertErr}
+use Rattle.tg_cert.specs.declared.errors.CertErr.TheVariants.{Step, Empty, Memory}
 use Rattle.tg_cert.proofs.Unique.{one_line}
 
 -- ---- a line is taken
@@ -83,6 +85,9 @@ module _ (th : Theory) where
   pub begins : (rs : List RawLine) (b : Book) → b.theory ≡ th → b.entries ≡ [] → AreChecked th (take 0 rs) b
   begins rs b t e = record { theory = t; entries = subst (AreEntries th [] []) (sym e) tt }
 
+  pub all_checked : (rs : List RawLine) (i : ℕ) (b : Book) → AreChecked th (take i rs) b → length rs ≤ i → AreChecked th rs b
+  all_checked rs i b h l = subst (λ (k : List RawLine). AreChecked th k b) (take_all i rs l) h
+
   pub words_there : (rs : List RawLine) (b : Book) (w : Words) → AreChecked th rs b → AreWordsOf w (declared_in th) → AreWordsOf w (declared_in b.theory)
   words_there rs b w h a = subst (λ (t : Theory). AreWordsOf w (declared_in t)) (sym h.theory) a
 
@@ -112,21 +117,18 @@ module _ (th : Theory) where
         none = λ e x. t.1 e (subst (λ (y : Theory). IsEntry y (sequents b.entries) r e) (sym h.theory) x);
       }
 
-  module _ (rs : List RawLine) (i : ℕ) (b : Book) (h : AreChecked th (take i rs) b) (end : length rs ≤ i) where
-    all_of : AreEntries th [] rs b.entries
-    all_of = subst (λ (l : List RawLine). AreEntries th [] l b.entries) (take_all i rs end) h.entries
-
-    pub nothing : (n : ℕ) → n ≡ length b.entries → n ≡ 0 → rs ≡ []
-    nothing n is z = go rs (sym (as_many [] rs b.entries all_of) ∙ sym is ∙ z)
+  module _ (rs : List RawLine) (b : Book) (h : AreChecked th rs b) where
+    pub nothing : b.entries ≡ [] → rs ≡ []
+    nothing none = go rs (sym (as_many [] rs b.entries h.entries) ∙ ap (λ (l : List Entry). length l) none)
       where
         go : (l : List RawLine) → length l ≡ 0 → l ≡ []
         go [] e = refl
         go (x ∷ l) e = cc e
 
-    pub proves : (n : ℕ) → n ≡ length b.entries → (s : Sequent) → numbered (sequents b.entries) n ≡ Some s → Proves th rs s
-    proves n is s at =
-        let p = last b.entries n is at in
-        record { before = p.0; last = p.1; lines = subst (AreEntries th [] rs) p.2 all_of; is = p.3 }
+    pub proves : (s : Sequent) → numbered (sequents b.entries) (length b.entries) ≡ Some s → Proves th rs s
+    proves s at =
+        let p = last b.entries (length b.entries) refl at in
+        record { before = p.0; last = p.1; lines = subst (AreEntries th [] rs) p.2 h.entries; is = p.3 }
       where
         here : (e : Entry) (es : List Entry) (k : ℕ) → k ≡ length es → slice_get (sequents (e ∷ es)) k ≡ Some s
             → (before : List Entry) × (x : Entry) × (e ∷ es ≡ before ++ x ∷ []) × (x.sequent ≡ s)
@@ -149,4 +151,22 @@ module _ (th : Theory) where
     pub is_true : (s : Sequent) → IsTrueEverywhere b.theory s → IsTrueEverywhere th s
     is_true s t = subst (λ (x : Theory). IsTrueEverywhere x s) h.theory t
 
-pub ruleset checking = (begins, words_there, goes_on, stops, nothing, proves, derives, is_true)
+pub refuses : (th : Theory) (rs : List RawLine) (b : Book) → AreChecked th rs b → (e : CertErr) → IsWithoutLine b e → Refuses th rs e
+refuses th rs b h (Step n) w = absurd w
+refuses th rs b h Empty w = nothing th rs b h w
+refuses th rs b h Memory w = tt
+
+pub without : (b : Book) (n : ℕ) → n ≡ length b.entries → n ≡ 0 → b.entries ≡ []
+without b n is z = go b.entries (sym is ∙ z)
+  where
+    go : (es : List Entry) → length es ≡ 0 → es ≡ []
+    go [] e = refl
+    go (e ∷ es) q = cc q
+
+pub at_length : (b : Book) (n : ℕ) (s : Sequent) → n ≡ length b.entries → numbered (sequents b.entries) n ≡ Some s
+    → numbered (sequents b.entries) (length b.entries) ≡ Some s
+at_length b n s is at = ap (numbered (sequents b.entries)) (sym is) ∙ at
+
+pub ruleset checking = (begins, words_there, goes_on, stops, all_checked)
+pub ruleset ending = (without, at_length)
+pub ruleset concluding = (proves, derives, is_true, refuses)

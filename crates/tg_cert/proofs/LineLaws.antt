@@ -1,5 +1,5 @@
 -- What a line of a certificate says, step by step.
-use Rattle.std.proofs.Common.{ℕ, zero, suc, ◌≡◌, ◌≤◌, ◌<◌, List, [], ◌∷◌, length, Option, Some, None, refl, sym, ◌∙◌, ap, subst, arith}
+use Rattle.std.proofs.Common.{ℕ, zero, suc, ◌≡◌, ◌≤◌, ◌<◌, List, [], ◌∷◌, map, length, Option, Some, None, refl, sym, ◌∙◌, ap, subst, arith}
 use Rattle.std.specs.Prelude.{slice_get, option_map, IfSome}
 use Rattle.tg_model.specs.Formula.{Sequent}
 use Rattle.tg_model.specs.Theory.{Theory, numbered}
@@ -13,9 +13,14 @@ use Rattle.tg_calculus.specs.Step.{IsContext}
 use Rattle.tg_calculus.proofs.Formed.{derivable_is_formed}
 use Rattle.tg_grammar.specs.declared.certificates.RawLine.{RawLine}
 use Rattle.tg_grammar.specs.declared.formulas.RawFormula.{RawFormula}
+use Rattle.tg_grammar.specs.declared.types.RawTy.{RawTy}
+use Rattle.tg_types.specs.declared.types.Ty as declared
+use Rattle.tg_types.specs.Types.{ty}
 use Rattle.tg_standing.specs.Formulas.{raw_formula}
 use Rattle.tg_cert.specs.Arguments.{Arguments, rule_of, numbers_apart}
 use Rattle.tg_cert.specs.Lines.{Optional, IsRowOf, AreTypesOf, AreTermsOf, Stand, Says, premises_of, context_at}
+use Rattle.tg_cert.specs.Code.{arguments}
+use Rattle.tg_cert.specs.declared.arguments.Arguments as code
 use Rattle.tg_cert.proofs.Unique.{one_list_of_types, one_stand}
 
 -- ---- what a line says
@@ -111,6 +116,28 @@ module _ (th : Theory) (G : Context) (r : RawLine) where
   no_terms n a s = n a.terms s.terms
 
 pub ruleset standing = (no_row, no_formula, no_terms)
+
+-- ---- what is read, in the forms that the code has it
+
+pub are_closed : (th : Theory) (rs : List RawTy) (ts : List Ty) → AreTypesOf th rs ts → IsContext th ts
+are_closed th [] [] h = tt
+are_closed th [] (t ∷ ts) h = absurd h
+are_closed th (r ∷ rs) [] h = absurd h
+are_closed th (r ∷ rs) (t ∷ ts) h = (h.0.1, are_closed th rs ts h.1)
+
+pub types_given : (th th' : Theory) (rs rs' : List RawTy) (o : Option (List declared.Ty)) (ts : List declared.Ty) (us : List Ty) → th ≡ th' → rs ≡ rs'
+    → o ≡ Some ts → us ≡ map ty ts → IsAnswer (AreTypesOf th rs) (option_map (map ty) o) → AreTypesOf th' rs' us
+types_given th th' rs rs' o ts us a b c d h =
+    subst (AreTypesOf th' rs') (sym d)
+    (subst (λ (t : Theory). AreTypesOf t rs' (map ty ts)) a
+    (subst (λ (l : List RawTy). AreTypesOf th l (map ty ts)) b
+    (subst (λ (p : Option (List declared.Ty)). IsAnswer (AreTypesOf th rs) (option_map (map ty) p)) c h)))
+
+pub arguments_given : (th th' : Theory) (G : Context) (r : RawLine) (o : Option code.Arguments) (p : Option code.Arguments) → th ≡ th' → o ≡ p
+    → IsAnswer (Stand th G r) (option_map arguments o) → IsAnswer (Stand th' G r) (option_map arguments p)
+arguments_given th th' G r o p a b h =
+    subst (λ (t : Theory). IsAnswer (Stand t G r) (option_map arguments p)) a
+    (subst (λ (q : Option code.Arguments). IsAnswer (Stand th G r) (option_map arguments q)) b h)
 
 -- ---- in the forms that the code asks for
 

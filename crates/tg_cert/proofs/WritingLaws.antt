@@ -5,11 +5,12 @@ use Rattle.std.proofs.lemmas.Bool.Decides.{Decides-eqb}
 use Rattle.std.proofs.lemmas.List.{drop_all}
 use Rattle.tg_accept.proofs.Misnamed.{is_false}
 use Rattle.tg_model.specs.Theory.{Theory, numbered}
+use Rattle.tg_model.specs.Types as types
 use Rattle.tg_calculus.specs.Book.{Line}
 use Rattle.tg_grammar.specs.Kinds.{close_brace}
 use Rattle.tg_grammar.specs.Seen.{Seen}
 use Rattle.tg_render.specs.Render.{put, written, written_line, written_lines}
-use Rattle.tg_render.specs.Tokens.{mark, numeral, continued}
+use Rattle.tg_render.specs.Tokens.{mark, numeral, continued, divided}
 use Rattle.tg_render.proofs.Writing.{written-append, lines-append}
 use Rattle.tg_report.specs.TypeTexts.{ty_tokens}
 use Rattle.tg_report.specs.Words.{comma}
@@ -55,6 +56,28 @@ pub number_last : (out whole : List ℕ) (ns : List ℕ) (i : ℕ) → length ns
 number_last out whole ns i h so_far = ap (λ l. written out (numerals l)) (sym (drop_all i ns h)) ∙ so_far
 
 pub ruleset types = (type_next, type_last)
+
+-- ---- contexts
+
+module _ (th : Theory) where
+  pub none_written : (out : List ℕ) (ts : List Ty) → ts ≡ [] → out ≡ written out (divided comma (map (ty_tokens th) (map ty ts)))
+  none_written out ts e = ap (λ l. written out (divided comma (map (ty_tokens th) (map ty l)))) (sym e)
+
+  pub some_written : (out mid next : List ℕ) (ts us : List Ty) (t : Ty) → ts ≡ t ∷ us → mid ≡ written out (ty_tokens th (ty t))
+      → next ≡ written mid (others th us) → next ≡ written out (divided comma (map (ty_tokens th) (map ty ts)))
+  some_written out mid next ts us t e a b =
+      b ∙ ap (λ o. written o (others th us)) a ∙ sym (written-append out (ty_tokens th (ty t)) (others th us))
+      ∙ ap (λ l. written out (divided comma (map (ty_tokens th) (map ty l)))) (sym e)
+
+  pub braced : (out first mid next : List ℕ) (ts : List Ty) (G : List types.Ty) → map ty ts ≡ G → first ≡ put out (codes "{")
+      → mid ≡ written first (divided comma (map (ty_tokens th) (map ty ts))) → next ≡ put mid (codes "}") → next ≡ written out (context_tokens th G)
+  braced out first mid next ts G same a b c =
+      let inner = divided comma (map (ty_tokens th) (map ty ts)) in
+      c ∙ ap (λ o. put o (codes "}")) (b ∙ ap (λ o. written o inner) a)
+      ∙ sym (written-append (put out (codes "{")) inner (mark close_brace (codes "}") ∷ []))
+      ∙ ap (λ H. written out (context_tokens th H)) same
+
+pub ruleset contexts = (none_written, some_written, braced)
 pub ruleset numbers = (number_next, number_last)
 
 -- ---- lines

@@ -28,3 +28,9 @@ Takes old new r false = (new ≡ old) × ((e : Entry) → ¬ (IsEntry old.theory
 pub record AreChecked (th : Theory) (rs : List RawLine) (b : Book) : Type 0 where
   pub theory : b.theory ≡ th
   pub entries : AreEntries th [] rs b.entries
+
+-- that there is no line; want of memory says nothing
+abbrev pub IsWithoutLine : Book → CertErr → Type 0
+IsWithoutLine b (Step n) = ⊥
+IsWithoutLine b Empty = b.entries ≡ []
+IsWithoutLine b Memory = Unit {0}

@@ -5,7 +5,7 @@ ghost use Rattle.tg_cert.specs.CertificateTexts.{certificate_lines, context_toke
 ghost use Rattle.tg_kernel.specs.Entries.{IsThere, number};
 ghost use Rattle.tg_kernel.specs.Rules.{as_line, as_rule};
 ghost use Rattle.tg_render.specs.Render.{lines, written, written_line, written_lines};
-ghost use Rattle.tg_render.specs.Tokens.{continued};
+ghost use Rattle.tg_render.specs.Tokens.{continued, divided};
 ghost use Rattle.tg_report.specs.TypeTexts.{ty_tokens};
 ghost use Rattle.tg_report.specs.Words.{comma};
 ghost use Rattle.tg_types.specs.Types.{ty};
@@ -146,16 +146,25 @@ fn put_last(out: &mut Vec<u8>, th: &Theory, rule: &Rule) -> Result<(), AllocErro
 }
 
 /// Writes the types of a context.
-#[tactic(auto, using(crate::proofs::WritingLaws::writing))]
+#[tactic(auto, using(crate::proofs::WritingLaws::contexts))]
 fn put_context(out: &mut Vec<u8>, th: &Theory, vars: &Context) -> Result<(), AllocError>
     ensures { OnOk result (out.new.items ≡ written out.old.items (context_tokens th.now vars.now)) }
 {
     put_token(out, b"{")?;
-    if let Some((first, others)) = vars.types().split_first() {
-        put_ty(out, th, first)?;
-        put_others(out, th, others)?;
-    }
+    put_types(out, th, vars.types())?;
     put_token(out, b"}")
+}
+
+/// Writes types with a comma between two of them.
+#[tactic(auto, using(crate::proofs::WritingLaws::contexts))]
+fn put_types(out: &mut Vec<u8>, th: &Theory, types: &[Ty]) -> Result<(), AllocError>
+    ensures { OnOk result (out.new.items ≡ written out.old.items (divided comma (map (ty_tokens th.now) (map ty types.now)))) }
+{
+    let Some((first, others)) = types.split_first() else {
+        return Ok(());
+    };
+    put_ty(out, th, first)?;
+    put_others(out, th, others)
 }
 
 /// Writes types with a comma before each.
