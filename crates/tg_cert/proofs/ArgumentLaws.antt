@@ -1,5 +1,5 @@
 -- The rules by their numbers.
-use Rattle.std.proofs.Common.{ℕ, zero, suc, ◌≡◌, ◌≤◌, ◌<◌, ◌⊎◌, inl, inr, false, nat_eq, Option, None, refl, sym, subst, arith}
+use Rattle.std.proofs.Common.{ℕ, ◌≡◌, ◌≤◌, ◌<◌, ◌⊎◌, inl, inr, false, nat_eq, None, refl, sym, subst, arith}
 use Rattle.std.proofs.lemmas.Bool.Decides.{Decides-eqb}
 use Rattle.tg_accept.proofs.Misnamed.{is_false}
 use Rattle.tg_cert.specs.Arguments.{Arguments, rule_of}

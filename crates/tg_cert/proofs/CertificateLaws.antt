@@ -2,8 +2,7 @@
 use Rattle.std.proofs.Common.{ℕ, suc, ◌≡◌, List, [], ◌∷◌, ◌++◌, length, refl, sym, ◌∙◌, ap, subst, append_assoc}
 use Rattle.tg_model.specs.Formula.{Sequent}
 use Rattle.tg_model.specs.Theory.{Theory}
-use Rattle.tg_model.specs.Accepted.{IsAccepted}
-use Rattle.tg_calculus.specs.Book.{Entry, IsBook, Follow, sequents}
+use Rattle.tg_calculus.specs.Book.{Entry, Follow, sequents}
 use Rattle.tg_calculus.specs.Sequent.{Each}
 use Rattle.tg_calculus.specs.Derivation.{Derives}
 use Rattle.tg_calculus.proofs.BookLaws.{append_nothing, books_derive}

@@ -1,16 +1,16 @@
 -- The text of a certificate is a text of the grammar.
-use Rattle.std.proofs.Common.{ℕ, zero, suc, ◌≡◌, ◌+◌, ◌<◌, ◌^◌, true, List, [], ◌∷◌, ◌++◌, map, length, Option, Some, None, inl, inr, refl, sym, ◌∙◌, ap, subst, arith, append_assoc, append-nil}
+use Rattle.std.proofs.Common.{ℕ, zero, suc, ◌≡◌, ◌+◌, ◌<◌, ◌^◌, true, List, [], ◌∷◌, ◌++◌, map, length, Some, None, inl, inr, refl, sym, ◌∙◌, ap, subst, arith, append_assoc, append-nil}
 use Prim.Native.String.{String}
 use Rattle.std.specs.Prelude.{codes, slice_get}
 use Rattle.tg_model.specs.Accepted.{IsAccepted}
 use Rattle.tg_model.specs.Formula as model
 use Rattle.tg_model.specs.Formula.{Formula, Sequent}
 use Rattle.tg_model.specs.TermTyping.{AllTyped}
-use Rattle.tg_model.specs.Theory.{Theory, IsClosed, AreClosed, numbered}
+use Rattle.tg_model.specs.Theory.{Theory, AreClosed, numbered}
 use Rattle.tg_model.specs.Tree as tree
 use Rattle.tg_model.specs.Tree.{Tree, Trees, elements}
 use Rattle.tg_model.specs.Types.{Ty, tys}
-use Rattle.tg_rules.specs.Rule.{nt, has, ◌∙∙◌}
+use Rattle.tg_rules.specs.Rule.{nt, has}
 use Rattle.tg_rules.specs.Texts.{Is}
 use Rattle.tg_rules.proofs.Heights.{by_rule}
 use Rattle.tg_rows.specs.Parts.{and_then}
@@ -26,7 +26,6 @@ use Rattle.tg_calculus.proofs.FromDraft.{then_found}
 use Rattle.tg_grammar.specs.declared.certificates.Argument.{Argument}
 use Rattle.tg_grammar.specs.declared.certificates.Argument.TheVariants as arguments
 use Rattle.tg_grammar.specs.declared.certificates.RawLine.{RawLine}
-use Rattle.tg_grammar.specs.declared.types.RawTy.{RawTy}
 use Rattle.tg_grammar.specs.Kinds as kinds
 use Rattle.tg_grammar.specs.Kinds.{open_brace, close_brace, semicolon, other_word}
 use Rattle.tg_grammar.specs.Making.{no_arguments, with_arguments, of_rule}
@@ -40,7 +39,7 @@ use Rattle.tg_grammar.specs.Steps.{argument}
 use Rattle.tg_grammar.specs.Steps as grammar
 use Rattle.tg_theory.specs.Wholes.{IsWritten}
 use Rattle.tg_render.specs.Laws.{AreAllProper}
-use Rattle.tg_render.specs.Tokens.{mark, name, numeral, divided, continued, joined, AreProper, IsNameWord}
+use Rattle.tg_render.specs.Tokens.{mark, name, numeral, continued, joined, AreProper, IsNameWord}
 use Rattle.tg_render.proofs.Proper.{words, numerals as proper_numeral}
 use Rattle.tg_render.proofs.Forward.{lines_back}
 use Rattle.tg_report.specs.FormulaTexts.{formula_tokens}

@@ -1,6 +1,6 @@
 -- Certificates checked line by line.
-use Rattle.std.proofs.Common.{ℕ, zero, suc, ◌≡◌, ◌≢◌, ◌≤◌, ◌+◌, true, false, List, [], ◌∷◌, ◌++◌, length, take, drop, Option, Some, None, refl, sym, ◌∙◌, ap, subst, add-one, arith, take_all, append_assoc}
-use Rattle.std.specs.Prelude.{slice_get}
+use Rattle.std.proofs.Common.{ℕ, zero, suc, ◌≡◌, ◌≢◌, ◌≤◌, ◌+◌, true, false, List, [], ◌∷◌, ◌++◌, length, take, drop, Some, None, refl, sym, ◌∙◌, ap, subst, add-one, take_all, append_assoc, Result, Ok, Err}
+use Rattle.std.specs.Prelude.{slice_get, IfOk, IfErr}
 use Rattle.tg_model.specs.Formula.{Sequent}
 use Rattle.tg_model.specs.Theory.{Theory, numbered}
 use Rattle.tg_accept.specs.Standing.{IsAnswer, declared_in}
@@ -10,7 +10,7 @@ use Rattle.tg_calculus.proofs.BookLaws.{append_nothing}
 use Rattle.tg_grammar.specs.declared.certificates.RawLine.{RawLine}
 use Rattle.tg_infer.specs.declared.words.Words.{Words}
 use Rattle.tg_infer.specs.Words.{AreWordsOf}
-use Rattle.tg_kernel.specs.Books.{Book, with_line, IsAppended, IsNone, IsTrueEverywhere}
+use Rattle.tg_kernel.specs.Books.{Book, IsAppended, IsNone, IsTrueEverywhere}
 use Rattle.tg_cert.specs.Lines.{Says}
 use Rattle.tg_cert.specs.Certificates.{IsEntry, AreEntries, Proves, FailsAt}
 use Rattle.tg_cert.specs.Code.{Takes, AreChecked, Refuses, IsWithoutLine}
@@ -170,3 +170,15 @@ at_length b n s is at = ap (numbered (sequents b.entries)) (sym is) ∙ at
 pub ruleset checking = (begins, words_there, goes_on, stops, all_checked)
 pub ruleset ending = (without, at_length)
 pub ruleset concluding = (proves, derives, is_true, refuses)
+
+pub checked_for : (th th' : Theory) (rs rs' : List RawLine) (b : Book) → th ≡ th' → rs ≡ rs' → AreChecked th rs b → AreChecked th' rs' b
+checked_for th th' rs rs' b s t h =
+    subst (λ (x : Theory). AreChecked x rs' b) s (subst (λ (l : List RawLine). AreChecked th l b) t h)
+
+pub ok_map : {A E : Type 0} (P Q : A → Type 0) (r : Result A E) → ((x : A) → P x → Q x) → IfOk r P → IfOk r Q
+ok_map P Q (Ok x) f h = f x h
+ok_map P Q (Err e) f h = tt
+
+pub err_map : {A E : Type 0} (P Q : E → Type 0) (r : Result A E) → ((e : E) → P e → Q e) → IfErr r P → IfErr r Q
+err_map P Q (Ok x) f h = tt
+err_map P Q (Err e) f h = f e h

@@ -1,11 +1,11 @@
 -- The texts of closed types, typed terms and well-formed formulas stand for them.
-use Rattle.std.proofs.Common.{ℕ, suc, ◌≡◌, ◌+◌, List, [], ◌∷◌, length, Option, Some, None, refl, sym, ap, ◌∙◌, subst, add-one}
+use Rattle.std.proofs.Common.{ℕ, ◌≡◌, ◌+◌, List, [], ◌∷◌, length, Some, None, refl, sym, ap, ◌∙◌, subst, add-one}
 use Rattle.std.specs.Prelude.{option_map, option_and_then}
 use Rattle.std.specs.Option.{option_map_or}
 use Rattle.tg_model.specs.Accepted.{IsAccepted}
 use Rattle.tg_model.specs.Formula as model
 use Rattle.tg_model.specs.Formula.{Formula}
-use Rattle.tg_model.specs.Theory.{Theory, Datatype, IsClosed, AreClosed, numbered}
+use Rattle.tg_model.specs.Theory.{Theory, Datatype, IsClosed, AreClosed}
 use Rattle.tg_model.specs.Tree as tree
 use Rattle.tg_model.specs.Tree.{Tree, Trees}
 use Rattle.tg_model.specs.Types as types
@@ -19,8 +19,7 @@ use Rattle.tg_accept.specs.Raw as raw
 use Rattle.tg_accept.specs.Standing.{declared_in, IsTypeOf, IsTermAt, AreTermsAt, IsFormulaAt}
 use Rattle.tg_accept.proofs.Again.{resolved_again_typed}
 use Rattle.tg_grammar.specs.declared.formulas.RawFormula.{RawFormula}
-use Rattle.tg_grammar.specs.declared.terms.RawTerm.{RawTerm}
-use Rattle.tg_infer.specs.View.{listed_types, raw_type, raw_types, raw_type-Nat, raw_type-Bool, raw_type-Word, raw_term, raw_terms}
+use Rattle.tg_infer.specs.View.{raw_type, raw_types, raw_type-Nat, raw_type-Bool, raw_type-Word, raw_term, raw_terms}
 use Rattle.tg_report.specs.Names.{datatype_name}
 use Rattle.tg_report.specs.RawFormulas as text
 use Rattle.tg_report.specs.RawFormulas.{FormulaHasText}

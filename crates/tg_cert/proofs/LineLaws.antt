@@ -1,6 +1,6 @@
 -- What a line of a certificate says, step by step.
 use Rattle.std.proofs.Common.{ℕ, zero, suc, ◌≡◌, ◌≤◌, ◌<◌, List, [], ◌∷◌, map, length, Option, Some, None, refl, sym, ◌∙◌, ap, subst, arith}
-use Rattle.std.specs.Prelude.{slice_get, option_map, IfSome}
+use Rattle.std.specs.Prelude.{slice_get, option_map}
 use Rattle.tg_model.specs.Formula.{Sequent}
 use Rattle.tg_model.specs.Theory.{Theory, numbered}
 use Rattle.tg_model.specs.Types.{Ty}
@@ -18,7 +18,7 @@ use Rattle.tg_types.specs.declared.types.Ty as declared
 use Rattle.tg_types.specs.Types.{ty}
 use Rattle.tg_standing.specs.Formulas.{raw_formula}
 use Rattle.tg_cert.specs.Arguments.{Arguments, rule_of, numbers_apart}
-use Rattle.tg_cert.specs.Lines.{Optional, IsRowOf, AreTypesOf, AreTermsOf, Stand, Says, premises_of, context_at}
+use Rattle.tg_cert.specs.Lines.{Optional, IsRowOf, AreTypesOf, AreTermsOf, Stand, Says, context_at}
 use Rattle.tg_cert.specs.Code.{arguments}
 use Rattle.tg_cert.specs.declared.arguments.Arguments as code
 use Rattle.tg_cert.proofs.Unique.{one_list_of_types, one_stand}

@@ -1,15 +1,14 @@
 -- What is written of a book's lines says the lines.
-use Rattle.std.proofs.Common.{ℕ, zero, suc, ◌≡◌, ◌+◌, ◌<◌, List, [], ◌∷◌, ◌++◌, map, length, Option, Some, None, refl, sym, ◌∙◌, ap, subst, arith}
+use Rattle.std.proofs.Common.{ℕ, zero, suc, ◌≡◌, ◌+◌, List, [], ◌∷◌, ◌++◌, map, length, Option, Some, None, refl, sym, ◌∙◌, ap, subst, arith}
 use Rattle.std.specs.Prelude.{slice_get, option_map}
 use Rattle.tg_model.specs.Accepted.{IsAccepted}
-use Rattle.tg_model.specs.Formula as model
-use Rattle.tg_model.specs.Formula.{Formula, Sequent, atom}
-use Rattle.tg_model.specs.Theory.{Theory, IsClosed, AreClosed, numbered}
+use Rattle.tg_model.specs.Formula.{Formula, Sequent}
+use Rattle.tg_model.specs.Theory.{Theory, AreClosed, numbered}
 use Rattle.tg_model.specs.Tree as tree
 use Rattle.tg_model.specs.Tree.{Tree, Trees, trees, elements}
 use Rattle.tg_model.specs.Types.{Ty, tys, bool}
-use Rattle.tg_model.specs.TermTyping.{IsTyped, AllTyped}
-use Rattle.tg_accept.specs.Standing.{IsTypeOf, IsTermOf, IsFormulaOf}
+use Rattle.tg_model.specs.TermTyping.{AllTyped}
+use Rattle.tg_accept.specs.Standing.{IsFormulaOf}
 use Rattle.tg_rows.specs.Parts.{and_then}
 use Rattle.tg_rows.specs.Rows.{Row, rows, row}
 use Rattle.tg_calculus.specs.Book.{Line, Entry, IsBook, Follow, IsInstance, premises_at, sequents}
@@ -21,22 +20,17 @@ use Rattle.tg_calculus.specs.Step as step
 use Rattle.tg_calculus.specs.Step.{Step, IsContext, IsFormula, IsTerm}
 use Rattle.tg_calculus.proofs.ConditionLaws.{reflexive_is_typed, schema_is_typed, empty_has_no_variable}
 use Rattle.tg_calculus.proofs.FromDraft.{then_found}
-use Rattle.tg_grammar.specs.declared.certificates.RawLine.{RawLine}
 use Rattle.tg_grammar.specs.declared.formulas.RawFormula.{RawFormula}
-use Rattle.tg_grammar.specs.declared.terms.RawTerm.{RawTerm}
-use Rattle.tg_grammar.specs.declared.types.RawTy.{RawTy}
-use Rattle.tg_infer.specs.View as view
 use Rattle.tg_kernel.specs.Books.{rule_number}
 use Rattle.tg_report.specs.RawFormulas as formulas
 use Rattle.tg_report.specs.RawTerms.{raw_term}
 use Rattle.tg_report.specs.RawTypes.{raw_ty}
 use Rattle.tg_report.proofs.TypedTexts.{typed_has_text, well_formed_has_text}
 use Rattle.tg_standing.specs.Formulas as standing
-use Rattle.tg_tables.specs.Lists.{schema_list}
 use Rattle.tg_cert.specs.Arguments.{Arguments, rule_of, numbers_apart}
-use Rattle.tg_cert.specs.Certificates.{IsEntry, AreEntries}
+use Rattle.tg_cert.specs.Certificates.{AreEntries}
 use Rattle.tg_cert.specs.CertificateTexts.{row_name}
-use Rattle.tg_cert.specs.Lines.{Pairwise, Optional, IsRowOf, AreTypesOf, AreTermsOf, Stand, Says, context_at, number_in}
+use Rattle.tg_cert.specs.Lines.{Optional, IsRowOf, AreTypesOf, AreTermsOf, Stand, Says, context_at}
 use Rattle.tg_cert.specs.ReadBack.{none, arguments_in, first_numbers, raw_line, raw_lines, HaveSmallNumbers, MayHaveSmallNumbers, IsSmall, AreSmall, LinesReadBack}
 use Rattle.tg_cert.proofs.FormulasBack.{type_stands, term_stands, formula_stands}
 

@@ -1,11 +1,11 @@
 -- The text of a typed term stands for the term.
-use Rattle.std.proofs.Common.{ℕ, zero, suc, ◌≡◌, ◌+◌, ◌-◌, ◌<◌, Bool, true, false, nat_eq, ◌&&◌, inl, inr, List, [], ◌∷◌, ◌++◌, map, reverse, length, Option, Some, None, refl, sym, ap, ◌∙◌, subst, add-one, arith, append_assoc}
-use Rattle.std.specs.Prelude.{slice_get, IsSome, option_map, option_and_then, if◌then◌else◌}
+use Rattle.std.proofs.Common.{ℕ, zero, suc, ◌≡◌, ◌+◌, ◌-◌, ◌<◌, true, false, nat_eq, List, [], ◌∷◌, ◌++◌, map, reverse, length, Option, Some, None, refl, sym, ap, ◌∙◌, add-one, arith, append_assoc}
+use Rattle.std.specs.Prelude.{slice_get, option_map, option_and_then, if◌then◌else◌}
 use Rattle.std.specs.Option.{option_map_or}
 use Rattle.std.proofs.lemmas.Bool.Decides.{Decides-eqb}
 use Rattle.std.proofs.lemmas.List.{reverse-append}
 use Rattle.tg_model.specs.Accepted.{IsAccepted}
-use Rattle.tg_model.specs.Theory.{Theory, Datatype, Constructor, Owned, constructor_at, numbered, first_constructor, instance}
+use Rattle.tg_model.specs.Theory.{Theory, Datatype, Constructor, Owned, constructor_at, first_constructor, instance}
 use Rattle.tg_model.specs.Tree as tree
 use Rattle.tg_model.specs.Tree.{Tree, Trees, Arms, Operator}
 use Rattle.tg_model.specs.Types.{Ty}
@@ -14,7 +14,7 @@ use Rattle.tg_model.specs.TypeLaws.{AreBranchSizes, branch_sizes, EachCase, Each
 use Rattle.tg_model.proofs.Inhabited.{constructor_number}
 use Rattle.tg_term.specs.Operators.{operator, operator_number}
 use Rattle.tg_accept.specs.Core.{heads_from, heads_of, unnamed, resolved_again, all_resolved_again, branches_again}
-use Rattle.tg_accept.specs.Meaning.{Word, constructor, function, the_program, constructor_named, word_named, variable_on, word_on, word_meant, head_meant, place_of, same_binder, may_bind, may_bind_all, name_of, datatype_of_first, datatype_of_head, resolve, resolve_all, resolve_branches}
+use Rattle.tg_accept.specs.Meaning.{Word, constructor, function, the_program, constructor_named, word_named, variable_on, word_on, word_meant, head_meant, place_of, may_bind, may_bind_all, name_of, datatype_of_first, datatype_of_head, resolve, resolve_all, resolve_branches}
 use Rattle.tg_accept.specs.Raw as raw
 use Rattle.tg_accept.specs.Raw.{Binder, level}
 use Rattle.tg_accept.specs.Resolved as resolved
@@ -22,9 +22,7 @@ use Rattle.tg_accept.specs.Resolved.{Head, zero_head, successor_head, of, Resolv
 use Rattle.tg_accept.specs.Standing.{declared_in, certificate_scope, levels}
 use Rattle.tg_accept.proofs.Aligned.{as_many}
 use Rattle.tg_accept.proofs.Misnamed.{is_false}
-use Rattle.tg_infer.specs.View.{Seen, binder, head, listed, branched, seen, raw_term, raw_terms, raw_branches, raw_term-Num, raw_term-Truth, raw_term-Use, raw_term-Free, raw_term-Bound, raw_term-Op, raw_term-If, raw_term-Let, raw_term-Case, seen-RawBranch}
-use Rattle.tg_grammar.specs.declared.terms.RawTerm.{RawTerm}
-use Rattle.tg_grammar.specs.declared.terms.RawBranch.{RawBranch}
+use Rattle.tg_infer.specs.View.{Seen, binder, head, branched, seen, raw_term, raw_terms, raw_branches, raw_term-Num, raw_term-Truth, raw_term-Use, raw_term-Free, raw_term-Bound, raw_term-Op, raw_term-If, raw_term-Let, raw_term-Case, seen-RawBranch}
 use Rattle.tg_grammar.specs.declared.terms.Binder.TheVariants.{Level}
 use Rattle.tg_report.specs.Names.{constructor_name, function_name, constructors_of, name_at}
 use Rattle.tg_report.specs.RawTerms as text

@@ -1,13 +1,11 @@
 -- What is written stands for one thing at most.
-use Rattle.std.proofs.Common.{ℕ, ◌≡◌, List, [], ◌∷◌, Option, Some, None, refl, sym, ◌∙◌, ap, subst}
-use Rattle.tg_model.specs.Formula.{Formula, Sequent}
+use Rattle.std.proofs.Common.{◌≡◌, List, [], ◌∷◌, Option, Some, None, refl, sym, ◌∙◌, ap, subst}
+use Rattle.tg_model.specs.Formula.{Sequent}
 use Rattle.tg_model.specs.Theory.{Theory}
-use Rattle.tg_model.specs.Tree.{Tree}
 use Rattle.tg_model.specs.Types.{Ty}
 use Rattle.tg_accept.specs.Standing.{IsTypeOf, IsTermOf, IsFormulaOf}
 use Rattle.tg_accept.proofs.StandsFor.{one_term, one_formula}
 use Rattle.tg_calculus.specs.Book.{Line, Entry, IsInstance}
-use Rattle.tg_calculus.specs.Rule.{Rule}
 use Rattle.tg_calculus.specs.Sequent.{Context}
 use Rattle.tg_calculus.specs.Step.{Step}
 use Rattle.tg_calculus.proofs.FromDraft.{has_one_conclusion}
@@ -18,7 +16,7 @@ use Rattle.tg_grammar.specs.declared.types.RawTy.{RawTy}
 use Rattle.tg_infer.specs.View.{raw_term, raw_type}
 use Rattle.tg_standing.specs.Formulas.{raw_formula}
 use Rattle.tg_cert.specs.Arguments.{Arguments, rule_of}
-use Rattle.tg_cert.specs.Lines.{Pairwise, Optional, IsRowOf, AreTypesOf, AreTermsOf, Stand, Says, premises_of, context_at}
+use Rattle.tg_cert.specs.Lines.{Pairwise, Optional, IsRowOf, AreTypesOf, Stand, Says, premises_of, context_at}
 use Rattle.tg_cert.specs.Certificates.{IsEntry}
 
 one_some : {A : Type 0} (o : Option A) (x y : A) → o ≡ Some x → o ≡ Some y → x ≡ y

@@ -1,11 +1,11 @@
 -- Certificates written one part behind another.
-use Rattle.std.proofs.Common.{ℕ, zero, suc, ◌≡◌, ◌≢◌, ◌≤◌, ◌<◌, ◌+◌, Bool, true, false, nat_eq, List, [], ◌∷◌, ◌++◌, map, length, take, drop, Option, Some, None, refl, sym, ◌∙◌, ap, subst, add-one, arith}
+use Rattle.std.proofs.Common.{ℕ, zero, suc, ◌≡◌, ◌≢◌, ◌≤◌, ◌+◌, true, false, nat_eq, List, [], ◌∷◌, ◌++◌, map, length, take, drop, Some, refl, sym, ◌∙◌, ap, add-one, arith}
 use Rattle.std.specs.Prelude.{slice_get, codes}
 use Rattle.std.proofs.lemmas.Bool.Decides.{Decides-eqb}
 use Rattle.std.proofs.lemmas.List.{drop_all}
 use Rattle.tg_accept.proofs.Misnamed.{is_false}
 use Rattle.tg_model.specs.Theory.{Theory, numbered}
-use Rattle.tg_model.specs.Types as types
+use Rattle.tg_model.specs.Types as model
 use Rattle.tg_calculus.specs.Book.{Line}
 use Rattle.tg_grammar.specs.Kinds.{close_brace}
 use Rattle.tg_grammar.specs.Seen.{Seen}
@@ -69,7 +69,7 @@ module _ (th : Theory) where
       b ∙ ap (λ o. written o (others th us)) a ∙ sym (written-append out (ty_tokens th (ty t)) (others th us))
       ∙ ap (λ l. written out (divided comma (map (ty_tokens th) (map ty l)))) (sym e)
 
-  pub braced : (out first mid next : List ℕ) (ts : List Ty) (G : List types.Ty) → map ty ts ≡ G → first ≡ put out (codes "{")
+  pub braced : (out first mid next : List ℕ) (ts : List Ty) (G : List model.Ty) → map ty ts ≡ G → first ≡ put out (codes "{")
       → mid ≡ written first (divided comma (map (ty_tokens th) (map ty ts))) → next ≡ put mid (codes "}") → next ≡ written out (context_tokens th G)
   braced out first mid next ts G same a b c =
       let inner = divided comma (map (ty_tokens th) (map ty ts)) in

@@ -1,5 +1,5 @@
 -- The rules by their numbers, with their arguments in the order of a line.
-use Rattle.std.specs.Prelude.{ℕ, ◌≡◌, ◌||◌, nat_eq, if◌then◌else◌, List, [], ◌∷◌, Option, Some, None, option_map, option_and_then}
+use Rattle.std.specs.Prelude.{ℕ, ◌||◌, nat_eq, if◌then◌else◌, List, [], ◌∷◌, Option, Some, None, option_map, option_and_then}
 use Rattle.tg_model.specs.Tree.{Tree, trees}
 use Rattle.tg_model.specs.Types.{Ty}
 use Rattle.tg_model.specs.Formula.{Formula}

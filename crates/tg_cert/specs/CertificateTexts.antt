@@ -1,8 +1,6 @@
 -- Certificates as they are written: `certificate 1 begin`, a line of text for each line, and `end`.
 use Rattle.std.specs.Prelude.{ℕ, suc, ◌+◌, nat_eq, if◌then◌else◌, List, [], ◌∷◌, ◌++◌, codes, map}
-use Rattle.tg_model.specs.Formula.{Formula}
 use Rattle.tg_model.specs.Theory.{Theory}
-use Rattle.tg_model.specs.Tree.{Tree}
 use Rattle.tg_calculus.specs.Book.{Line}
 use Rattle.tg_calculus.specs.Rule as rule
 use Rattle.tg_calculus.specs.Rule.{Rule}

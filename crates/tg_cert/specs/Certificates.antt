@@ -2,7 +2,7 @@
 use Rattle.std.specs.Prelude.{ℕ, suc, ◌≡◌, List, [], ◌∷◌, ◌++◌, length}
 use Rattle.tg_model.specs.Formula.{Sequent}
 use Rattle.tg_model.specs.Theory.{Theory}
-use Rattle.tg_calculus.specs.Book.{Line, Entry, IsInstance, sequents}
+use Rattle.tg_calculus.specs.Book.{Entry, IsInstance, sequents}
 use Rattle.tg_grammar.specs.declared.certificates.RawLine.{RawLine}
 use Rattle.tg_cert.specs.Lines.{Says}
 

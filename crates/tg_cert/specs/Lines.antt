@@ -1,9 +1,9 @@
 -- What a line of a certificate says, where the earlier lines have these sequents.
-use Rattle.std.specs.Prelude.{ℕ, ◌≡◌, List, [], ◌∷◌, Option, Some, None, option_map, map, if◌then◌else◌}
+use Rattle.std.specs.Prelude.{ℕ, ◌≡◌, List, [], ◌∷◌, Option, Some, None, option_map, if◌then◌else◌}
 use Rattle.std.specs.Str.{bytes_eq}
 use Rattle.tg_model.specs.Types.{Ty}
 use Rattle.tg_model.specs.Tree.{Tree}
-use Rattle.tg_model.specs.Formula.{Formula, Sequent}
+use Rattle.tg_model.specs.Formula.{Sequent}
 use Rattle.tg_model.specs.Theory.{Theory, numbered}
 use Rattle.tg_accept.specs.Standing.{IsTypeOf, IsTermOf, IsFormulaOf}
 use Rattle.tg_calculus.specs.Book.{Line}

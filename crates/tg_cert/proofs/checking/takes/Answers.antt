@@ -1,8 +1,7 @@
-use Rattle.std.proofs.Common.{◌≡◌, Option, Some, None, subst}
+use Rattle.std.proofs.Common.{Option, subst}
 use Rattle.std.specs.Prelude.{option_map}
 use Rattle.tg_accept.specs.Standing.{IsAnswer}
 use Rattle.tg_calculus.specs.Book.{sequents}
-use Rattle.tg_kernel.specs.Books.{IsNone}
 use Rattle.tg_kernel.specs.Entries.{Refuses}
 use Rattle.tg_kernel.specs.Rules.{as_line}
 use Rattle.tg_kernel.specs.declared.errors.StepErr.{StepErr}

@@ -1,10 +1,10 @@
-use Rattle.std.proofs.Common.{ℕ, ◌≡◌, ◌∙◌, List, Option, Some, None, sym, ap}
+use Rattle.std.proofs.Common.{◌∙◌, Some, None, sym, ap}
 use Rattle.std.specs.Prelude.{option_map}
 use Rattle.tg_calculus.specs.Book.{sequents}
 use Rattle.tg_kernel.specs.Rules.{as_rule}
-use Rattle.tg_cert.specs.Arguments.{numbers_apart, rule_of}
+use Rattle.tg_cert.specs.Arguments.{numbers_apart}
 use Rattle.tg_cert.specs.Code.{arguments}
-use Rattle.tg_cert.specs.Lines.{AreTypesOf, Stand, context_at}
+use Rattle.tg_cert.specs.Lines.{AreTypesOf}
 use Rattle.tg_cert.proofs.LineLaws.{are_closed, types_given, arguments_given, no_arguments, no_rule_there, said_there}
 use Rattle.tg_cert.proofs.lines.line_of.Goals as goal
 

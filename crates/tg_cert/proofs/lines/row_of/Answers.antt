@@ -1,4 +1,4 @@
-use Rattle.std.proofs.Common.{ℕ, ◌≡◌, ◌∙◌, List, Option, Some, None, sym, ap, subst}
+use Rattle.std.proofs.Common.{ℕ, ◌≡◌, ◌∙◌, Option, Some, sym, ap, subst}
 use Rattle.tg_accept.specs.Standing.{IsAnswer}
 use Rattle.tg_tables.specs.Rows.{entry_of}
 use Rattle.tg_cert.specs.Lines.{Optional, IsRowOf}

@@ -1,4 +1,4 @@
-use Rattle.std.proofs.Common.{◌≡◌, map, Option, Some, refl, subst}
+use Rattle.std.proofs.Common.{◌≡◌, Option, Some, refl, subst}
 use Rattle.std.specs.Prelude.{slice_get, option_map}
 use Rattle.std.proofs.lemmas.Option.{slice_get_read}
 use Rattle.tg_accept.specs.Standing.{IsAnswer, IsTypeOf}
