@@ -9,17 +9,17 @@ mod ClassLaws
 mod KnownTexts
 mod NameWords
 pub mod ProperTokens
-mod TypeReading
+pub mod TypeReading
 pub mod ValueReading
 mod TermShapes
 mod BinderShapes
-mod TermReading
-mod FormulaReading
+pub mod TermReading
+pub mod FormulaReading
 mod NamePlaces
 mod RawParts
 mod SameTypes
 mod SameTerms
 mod SameFormulas
 mod SameValues
-mod TypedTexts
+pub mod TypedTexts
 mod KnownReadings

@@ -1,0 +1,100 @@
+//! Certificates checked line by line.
+ghost use Rattle.std.specs.Prelude.{◌≡◌, ◌≤◌, IfOk, IfErr, OnOk, Some, [], length};
+ghost use Rattle.tg_accept.specs.Standing.{declared_in};
+ghost use Rattle.tg_calculus.specs.Book.{sequents};
+ghost use Rattle.tg_calculus.specs.Derivation.{Derives};
+ghost use Rattle.tg_cert.specs.Certificates.{Proves};
+ghost use Rattle.tg_cert.specs.Code.{AreChecked, IsWithoutLine, Refuses, Takes};
+ghost use Rattle.tg_infer.specs.Words.{AreWordsOf};
+ghost use Rattle.tg_kernel.specs.Books.{IsTrueEverywhere};
+ghost use Rattle.tg_kernel.specs.Sequents.{sequent};
+ghost use Rattle.tg_model.specs.Theory.{numbered};
+
+use crate::errors::CertErr;
+use crate::lines::line_of;
+use std::alloc::{AllocError, Global};
+use tg_grammar::{RawCert, RawLine};
+use tg_infer::Words;
+use tg_kernel::{Book, Sequent, StepErr, Thm};
+use tg_standing::words_of;
+use tg_theory::Theory;
+
+/// The sequent of the last line, where each line bears its place as its number and is an instance of its rule on earlier lines. It
+/// has a derivation and is true on every table, whoever wrote the certificate.
+///
+/// `Step` comes exactly where some line isn't, with the place of the first such line, and `Empty` exactly where there is no line.
+#[tactic(auto, using(crate::proofs::CheckLaws::concluding))]
+pub fn check(alloc: Global, th: &Theory, raw: &RawCert) -> Result<Sequent, CertErr>
+    ensures proves { IfOk result (λ s. Proves th.now raw.now.lines (sequent s)) }
+    ensures refused { IfErr result (Refuses th.now raw.now.lines) }
+    ensures derivable { IfOk result (λ s. Derives th.now (sequent s)) }
+    ensures truth { IfOk result (λ s. IsTrueEverywhere th.now (sequent s)) }
+{
+    let words = words_of(alloc, th)?;
+    let mut book = Book::new(alloc, th);
+    take_all(alloc, &words, &mut book, raw.lines.as_slice())?;
+    last(&book)
+}
+
+/// Appends the lines to a book without a line, or tells the first that fails.
+#[tactic(auto, using(crate::proofs::CheckLaws::checking))]
+fn take_all(
+    alloc: Global,
+    words: &Words,
+    book: &mut Book<'_>,
+    lines: &[RawLine],
+) -> Result<(), CertErr>
+    requires words { AreWordsOf words.now (declared_in book.old.theory) }
+    requires empty { book.old.entries ≡ [] }
+    ensures checked { OnOk result (AreChecked book.old.theory lines.now book.new) }
+    ensures refused { IfErr result (Refuses book.old.theory lines.now) }
+{
+    for line in lines {
+        if !takes(alloc, words, book, line)? {
+            let place = book.len().checked_add(1).ok_or(CertErr::Memory)?;
+            return Err(CertErr::Step { line: place });
+        }
+    }
+    Ok(())
+}
+
+/// The sequent of the last line, or that there is no line.
+#[tactic(auto, using(crate::proofs::CheckLaws::ending))]
+fn last(book: &Book<'_>) -> Result<Sequent, CertErr>
+    ensures last { IfOk result (λ s. numbered (sequents book.now.entries) (length book.now.entries) ≡ Some (sequent s)) }
+    ensures derivable { IfOk result (λ s. Derives book.now.theory (sequent s)) }
+    ensures truth { IfOk result (λ s. IsTrueEverywhere book.now.theory (sequent s)) }
+    ensures none { IfErr result (IsWithoutLine book.now) }
+{
+    let n = book.len();
+    if n == 0 {
+        return Err(CertErr::Empty);
+    }
+    let s = book.sequent(Thm(n)).share()?;
+    Ok(s)
+}
+
+/// Appends the line where it bears its place as its number and is an instance of its rule, and tells whether it is.
+#[tactic(auto, using(crate::proofs::CheckLaws::taking))]
+fn takes(
+    alloc: Global,
+    words: &Words,
+    book: &mut Book<'_>,
+    raw: &RawLine,
+) -> Result<bool, AllocError>
+    requires { AreWordsOf words.now (declared_in book.old.theory) }
+    ensures { IfOk result (Takes book.old book.new raw.now) }
+{
+    let place = book.len().checked_add(1).ok_or(AllocError)?;
+    if raw.number != place {
+        return Ok(false);
+    }
+    let Some(line) = line_of(alloc, words, book, raw)? else {
+        return Ok(false);
+    };
+    match book.try_step(line) {
+        Ok(_) => Ok(true),
+        Err(StepErr::Bad { .. }) => Ok(false),
+        Err(StepErr::Memory) => Err(AllocError),
+    }
+}
