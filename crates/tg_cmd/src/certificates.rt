@@ -23,7 +23,7 @@ use tg_theory::Theory;
 use tg_types::Ty;
 
 /// The sequent that the certificate proves, or the line at which it fails.
-pub(crate) fn checked(alloc: Global, th: &Theory, raw: &RawCert) -> Result<Output, NoMemory>
+pub(crate) fn checked_theory(alloc: Global, th: &Theory, raw: &RawCert) -> Result<Output, NoMemory>
     ensures { IfOk result (λ o. OfCertificate th.now raw.now.lines (answer_after o.ending) o.text.items) }
 {
     match check(alloc, th, raw) {

@@ -9,7 +9,7 @@ use Rattle.tg_cmd.specs.Causes.{IsRefusal}
 use Rattle.tg_cmd.specs.CheckedLines.{checked_text}
 use Rattle.tg_cmd.specs.Output.{OfCertificate, proves, fails}
 use Rattle.tg_cmd.proofs.Outputs.{mapped_ok}
-use Rattle.tg_cmd.proofs.certificates.checked.Goals as goal
+use Rattle.tg_cmd.proofs.certificates.checked_theory.Goals as goal
 
 pub returns-in_ok-checked_text-in-Ok : goal.returns-in_ok-checked_text-in-Ok
 returns-in_ok-checked_text-in-Ok c =
