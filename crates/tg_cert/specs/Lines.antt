@@ -56,6 +56,7 @@ context_at done (n ∷ ns) types = option_map (λ (s : Sequent). s.vars) (number
 
 -- what is written stands for these arguments
 pub record Stand (th : Theory) (G : Context) (r : RawLine) (a : Arguments) : Type 0 where
+  pub types : AreTypesOf th r.vars a.types
   pub row : Optional IsRowOf r.word a.row
   pub formula : Optional (λ (f : RawFormula). IsFormulaOf th G (raw_formula f)) r.formula a.formula
   pub terms : AreTermsOf th G r.terms a.terms
@@ -65,7 +66,6 @@ pub record Stand (th : Theory) (G : Context) (r : RawLine) (a : Arguments) : Typ
 pub record Says (th : Theory) (done : List Sequent) (r : RawLine) (l : Line) : Type 0 where
   pub arguments : Arguments
   pub context : Context
-  pub types : AreTypesOf th r.vars arguments.types
   pub read_in : context_at done (premises_of r) arguments.types ≡ Some context
   pub stand : Stand th context r arguments
   pub rule : rule_of arguments r.rule ≡ Some l.rule

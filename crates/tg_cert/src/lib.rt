@@ -7,7 +7,9 @@ mod checking;
 mod errors;
 mod laws;
 mod lines;
+mod writing;
 
 pub use checking::check;
 pub use errors::CertErr;
 pub use laws::certificates;
+pub use writing::write;

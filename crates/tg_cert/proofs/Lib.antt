@@ -1,0 +1,13 @@
+pub mod ArgumentLaws
+pub mod RowLaws
+pub mod PairLaws
+pub mod Unique
+pub mod LineLaws
+pub mod CertificateLaws
+pub mod CheckLaws
+pub mod WritingLaws
+pub mod CoreBack
+pub mod NamesBack
+pub mod TermsBack
+pub mod FormulasBack
+pub mod LinesBack
