@@ -8,11 +8,11 @@ use Rattle.tg_types.specs.declared.types.Ty.{Ty}
 use Rattle.tg_types.specs.Types.{ty}
 use Rattle.tg_grammar.specs.Seen.{Seen}
 use Rattle.tg_render.specs.Render.{put, written, written_line, written_lines}
-use Rattle.tg_render.specs.Tokens.{continued}
+use Rattle.tg_render.specs.Tokens.{continued, divided}
 use Rattle.tg_render.proofs.Writing.{written-append, lines-append}
 use Rattle.tg_report.specs.TypeTexts.{ty_tokens}
 use Rattle.tg_report.specs.Words.{comma}
-use Rattle.tg_cmd.specs.CheckedLines.{assumed_lines, formula_line, types_tokens}
+use Rattle.tg_cmd.specs.CheckedLines.{assumed_lines, formula_line}
 
 -- types with a comma before each
 abbrev pub types_behind : Theory → List Ty → List Seen
@@ -29,7 +29,7 @@ type_next th out mid next whole ts i t less e so_far first second =
     ∙ sym (ap (λ us. written out (types_behind th us)) cut) ∙ so_far
 
 pub first_then : (th : Theory) (out mid next : List ℕ) (ts : List Ty) (t : Ty) → 1 ≤ length ts → t ≡ get_or ts 0 t → mid ≡ written out (ty_tokens th (ty t))
-    → next ≡ written mid (types_behind th (take (length ts - 1) (drop 1 ts))) → next ≡ written out (types_tokens th (map ty ts))
+    → next ≡ written mid (types_behind th (take (length ts - 1) (drop 1 ts))) → next ≡ written out (divided comma (map (ty_tokens th) (map ty ts)))
 first_then th out mid next [] t some e first rest = absurd (omega (arith, some))
 first_then th out mid next (u ∷ us) t some e first rest =
     rest ∙ ap (λ o. written o (types_behind th (take (length (u ∷ us) - 1) us))) (first ∙ ap (λ x. written out (ty_tokens th (ty x))) e)

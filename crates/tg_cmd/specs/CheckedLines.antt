@@ -3,13 +3,11 @@ use Rattle.std.specs.Prelude.{ℕ, List, [], ◌∷◌, ◌++◌, map, codes}
 use Rattle.tg_model.specs.Types.{Ty}
 use Rattle.tg_model.specs.Formula.{Formula, Sequent}
 use Rattle.tg_model.specs.Theory.{Theory}
-use Rattle.tg_grammar.specs.Kinds.{open_brace, close_brace}
+use Rattle.tg_cert.specs.CertificateTexts.{context_tokens}
 use Rattle.tg_grammar.specs.Seen.{Seen}
 use Rattle.tg_render.specs.Render.{lines}
-use Rattle.tg_render.specs.Tokens.{mark, name, numeral, divided}
+use Rattle.tg_render.specs.Tokens.{name, numeral}
 use Rattle.tg_report.specs.FormulaTexts.{formula_tokens}
-use Rattle.tg_report.specs.TypeTexts.{ty_tokens}
-use Rattle.tg_report.specs.Words.{comma}
 
 -- `checked T` and `lines N`
 abbrev pub name_line : Theory → List Seen
@@ -19,12 +17,8 @@ abbrev pub count_line : ℕ → List Seen
 count_line n = name (codes "lines") ∷ numeral n ∷ []
 
 -- `vars {T, U}`, and `vars {}` with no variable
-abbrev pub types_tokens : Theory → List Ty → List Seen
-types_tokens th Ts = divided comma (map (ty_tokens th) Ts)
-
 abbrev pub vars_line : Theory → List Ty → List Seen
-vars_line th Ts =
-    name (codes "vars") ∷ mark open_brace (codes "{") ∷ (types_tokens th Ts ++ mark close_brace (codes "}") ∷ [])
+vars_line th Ts = name (codes "vars") ∷ context_tokens th Ts
 
 abbrev pub formula_line : Theory → List ℕ → Formula → List Seen
 formula_line th word F = name word ∷ formula_tokens th 0 F

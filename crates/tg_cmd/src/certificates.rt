@@ -1,11 +1,11 @@
 //! Certificates: what they prove, or the line that says where one fails.
 ghost use Rattle.std.specs.Prelude.{◌≡◌, IfOk, OnOk, map};
 ghost use Rattle.tg_cmd.specs.Answers.{answer_after};
-ghost use Rattle.tg_cmd.specs.CheckedLines.{assumed_lines, checked_lines, checked_text, formula_line, sequent_lines, types_tokens, vars_line};
+ghost use Rattle.tg_cmd.specs.CheckedLines.{assumed_lines, checked_lines, checked_text, formula_line, sequent_lines, vars_line};
 ghost use Rattle.tg_cmd.specs.Output.{OfCertificate};
 ghost use Rattle.tg_kernel.specs.Sequents.{sequent};
 ghost use Rattle.tg_render.specs.Render.{written, written_line, written_lines};
-ghost use Rattle.tg_render.specs.Tokens.{continued};
+ghost use Rattle.tg_render.specs.Tokens.{continued, divided};
 ghost use Rattle.tg_report.specs.TypeTexts.{ty_tokens};
 ghost use Rattle.tg_report.specs.Words.{comma};
 ghost use Rattle.tg_types.specs.Types.{ty};
@@ -82,7 +82,7 @@ fn put_vars(out: &mut Vec<u8>, th: &Theory, types: &[Ty]) -> Result<(), AllocErr
 /// Writes types with a comma between two of them.
 #[tactic(auto, using(crate::proofs::LineLaws::writing))]
 fn put_types(out: &mut Vec<u8>, th: &Theory, types: &[Ty]) -> Result<(), AllocError>
-    ensures { OnOk result (out.new.items ≡ written out.old.items (types_tokens th.now (map ty types.now))) }
+    ensures { OnOk result (out.new.items ≡ written out.old.items (divided comma (map (ty_tokens th.now) (map ty types.now)))) }
 {
     match types {
         [first, rest @ ..] => {
