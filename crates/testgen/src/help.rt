@@ -26,6 +26,9 @@ fn with_commands(alloc: Global) -> Result<Command<'static>, AllocError> {
         ))?
         .subcommand(Command::new(alloc, "simulate NAME").about(
             "reads a theory: the outcomes where its function NAME stands in",
+        ))?
+        .subcommand(Command::new(alloc, "check").about(
+            "reads a theory and a certificate: what this proves; no options",
         ))
 }
 

@@ -1,3 +1,4 @@
+pub mod CheckedLaws
 pub mod Choices
 pub mod Completeness
 pub mod DataLaws

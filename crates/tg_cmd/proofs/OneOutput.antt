@@ -1,10 +1,14 @@
 -- An input has one output.
-use Rattle.std.proofs.Common.{ℕ, ◌≡◌, inl, inr, true, false, List, [], map, Err, refl, sym, ◌∙◌, ap, subst, arith}
+use Rattle.std.proofs.Common.{ℕ, ◌≡◌, inl, inr, true, false, List, [], length, map, Err, refl, sym, ◌∙◌, ap, subst, arith}
 use Rattle.tg_accept.specs.Declared.{nothing}
 use Rattle.tg_accept.proofs.AcceptedTheories.{theory_is_accepted}
 use Rattle.tg_accept.proofs.OneAnswer.{one_refusal, one_theory, not_both as never_both}
+use Rattle.tg_cert.specs.Certificates.{Proves, FailsAt}
+use Rattle.tg_cert.proofs.CertificateLaws as certificates
 use Rattle.tg_derive.specs.Work as work
 use Rattle.tg_derive.proofs.OneAnswer.{one_answer}
+use Rattle.tg_grammar.specs.declared.certificates.RawCert.{RawCert}
+use Rattle.tg_grammar.specs.declared.certificates.RawLine.{RawLine}
 use Rattle.tg_grammar.specs.declared.declarations.RawTheory.{RawTheory}
 use Rattle.tg_grammar.specs.declared.outcomes.RawOutcomes.{RawOutcomes}
 use Rattle.tg_grammar.specs.Parts.{Part, Value, Theory}
@@ -29,13 +33,14 @@ use Rattle.tg_cmd.specs.declared.answer.Refusal.TheVariants as refusals
 use Rattle.tg_cmd.specs.declared.answer.LimitName.{LimitName}
 use Rattle.tg_cmd.specs.Answers.{refusal_line, limit_line, answer_for, line_for}
 use Rattle.tg_cmd.specs.Causes.{IsRefusal, IsLimit, OfRaw, refused, accepted, OfTokens, too_nested, no_text, a_text, OfBytes, no_token, too_large, lexed, OfInput, too_long, whole}
+use Rattle.tg_cmd.specs.CheckedLines.{checked_text}
 use Rattle.tg_cmd.specs.Data.{choices_by_data}
 use Rattle.tg_cmd.specs.Judging.{verdicts_from}
 use Rattle.tg_cmd.specs.Lines.{judged_report_on}
-use Rattle.tg_cmd.specs.Requests.{Request, generate, harness, judge, simulate}
+use Rattle.tg_cmd.specs.Requests.{Request, generate, harness, judge, simulate, check}
 use Rattle.tg_cmd.specs.StandIn.{simulated}
 use Rattle.tg_cmd.specs.Tests.{tests_by_data}
-use Rattle.tg_cmd.specs.Output.{limit_of, OfClasses, limited, classes, OfTheory, IsReport, IsHarness, OfStandIn, none, stands_in, ending_on, tests_of, OfOutcomes, unread, read, Judged, IsOutput}
+use Rattle.tg_cmd.specs.Output.{limit_of, OfClasses, limited, classes, OfTheory, IsReport, IsHarness, OfStandIn, none, stands_in, ending_on, tests_of, OfOutcomes, unread, read, Judged, OfCertificate, proves, fails, empty, Checked, IsOutput}
 use Rattle.tg_cmd.proofs.StandIns.{one_stand_in}
 use Rattle.tg_cmd.proofs.RecordLaws.{not_read, one_refusal as one_outcome_refusal, one_reading as one_recording}
 use Rattle.tg_cmd.specs.Reading.{HasTokenFault, IsTooLarge}
@@ -186,8 +191,26 @@ of_outcomes s raw th cs a b t u (read os h f) (read ps i g) =
 judged : (s : Settings) (v : RawTheory × RawOutcomes) → Only (Judged s v)
 judged s v = of_theory (λ s th. OfOutcomes s v.1 th) (λ s th ok. of_outcomes s v.1 th) s v.0
 
+of_certificate : (th : model.Theory) (rs : List RawLine) → Only (OfCertificate th rs)
+of_certificate th rs a b t u (proves s h f) (proves z i g) =
+    let same = certificates.one_sequent th rs s z h i in
+    (f.answers ∙ sym g.answers, f.says ∙ ap (checked_text th (length rs)) same ∙ sym g.says)
+of_certificate th rs a b t u (proves s h f) (fails n i g) = absurd (certificates.never_both th rs s n h i)
+of_certificate th rs a b t u (proves s h f) (empty i g) = absurd (certificates.nothing_proved th s (subst (λ ls. Proves th ls s) i h))
+of_certificate th rs a b t u (fails m h f) (proves z i g) = absurd (certificates.never_both th rs z m i h)
+of_certificate th rs a b t u (fails m h f) (fails n i g) =
+    refusals_agree (refusals.Certificate m) (refusals.Certificate n) (ap refusals.Certificate (certificates.one_fault th rs m n h i)) a b t u f g
+of_certificate th rs a b t u (fails m h f) (empty i g) = absurd (certificates.nothing_fails th m (subst (λ ls. FailsAt th ls m) i h))
+of_certificate th rs a b t u (empty h f) (proves z i g) = absurd (certificates.nothing_proved th z (subst (λ ls. Proves th ls z) h i))
+of_certificate th rs a b t u (empty h f) (fails n i g) = absurd (certificates.nothing_fails th n (subst (λ ls. FailsAt th ls n) h i))
+of_certificate th rs a b t u (empty h f) (empty i g) = refusals_agree _ _ refl a b t u f g
+
+checked : (v : RawTheory × RawCert) → Only (Checked v)
+checked v = of_raw (λ th. OfCertificate th v.1.lines) (λ th ok. of_certificate th v.1.lines) v.0
+
 pub one_output : (r : Request) (input : List ℕ) → Only (IsOutput r input)
 one_output (generate s) input = of_input Theory (OfTheory IsReport s) (of_theory IsReport one_report s) input
 one_output (harness s) input = of_input Theory (OfTheory IsHarness s) (of_theory IsHarness one_harness s) input
 one_output (judge s) input = of_input parts.Judge (Judged s) (judged s) input
 one_output (simulate name s) input = of_input Theory (OfTheory (OfStandIn name) s) (of_theory (OfStandIn name) (one_simulation name) s) input
+one_output check input = of_input parts.Check Checked checked input

@@ -23,8 +23,8 @@ use Rattle.tg_cmd.specs.declared.answer.Answer.{Answer}
 use Rattle.tg_cmd.specs.declared.answer.LimitName.TheVariants.{Input}
 use Rattle.tg_cmd.specs.Causes.{longest, IsLimit, OfRaw, refused, too_nested, no_text, a_text, no_token, too_large, lexed, OfInput, too_long, whole}
 use Rattle.tg_cmd.specs.Ends.{IsFaultLine, HasTokenLine, IsTheoryLine, IsPassedLine}
-use Rattle.tg_cmd.specs.Output.{OfClasses, limited, OfTheory, IsReport, IsHarness, OfStandIn, Judged, IsOutput}
-use Rattle.tg_cmd.specs.Requests.{Request, generate, harness, judge, simulate}
+use Rattle.tg_cmd.specs.Output.{OfClasses, limited, OfTheory, IsReport, IsHarness, OfStandIn, Judged, Checked, IsOutput}
+use Rattle.tg_cmd.specs.Requests.{Request, generate, harness, judge, simulate, check}
 
 -- ---- of a theory
 
@@ -76,6 +76,7 @@ by_request (generate s) bytes answer text h = h Theory (OfTheory IsReport s)
 by_request (harness s) bytes answer text h = h Theory (OfTheory IsHarness s)
 by_request (judge s) bytes answer text h = h parts.Judge (Judged s)
 by_request (simulate name s) bytes answer text h = h Theory (OfTheory (OfStandIn name) s)
+by_request check bytes answer text h = h parts.Check Checked
 
 pub token_output : (bytes : List ℕ) (r : Request) (answer : Answer) (text : List ℕ) → length bytes ≤ longest → HasTokenLine bytes answer text
     → IsOutput r bytes answer text

@@ -3,19 +3,22 @@ use Rattle.std.proofs.Common.{ℕ, ◌≡◌, List, map, Option, Some, None, IfS
 use Rattle.std.specs.Io.KnownBytes.{Appends}
 use Rattle.tg_accept.proofs.AcceptedTheories.{theory_is_accepted}
 use Rattle.tg_grammar.specs.declared.declarations.RawTheory.{RawTheory}
+use Rattle.tg_cert.proofs.CertificateLaws.{proved_is_derivable, proved_is_true}
+use Rattle.tg_grammar.specs.declared.certificates.RawCert.{RawCert}
 use Rattle.tg_grammar.specs.declared.outcomes.RawOutcomes.{RawOutcomes}
+use Rattle.tg_grammar.specs.Parts.{Part, Value}
 use Rattle.tg_grammar.specs.Parts as parts
 use Rattle.tg_infer.specs.View.{raw_declaration}
 use Rattle.tg_types.specs.declared.options.Settings.{Settings}
 use Rattle.tg_cmd.specs.declared.answer.Answer.{Answer}
 use Rattle.tg_cmd.specs.declared.answer.Answer.TheVariants.{Done}
-use Rattle.tg_cmd.specs.Requests.{generate, judge}
+use Rattle.tg_cmd.specs.Requests.{generate, judge, check}
 use Rattle.tg_accept.specs.Checks as checks
 use Rattle.tg_accept.specs.Checks.{Kind}
 use Rattle.tg_cmd.specs.Answers.{answer_for}
-use Rattle.tg_cmd.specs.Causes.{refused, accepted, too_nested, no_text, a_text, no_token, too_large, lexed, too_long, whole}
-use Rattle.tg_cmd.specs.Output.{limited, classes, OfTheory, IsReport, IsOutcomeLine, unread, read, Judged, IsOutput, IsResult, IsWritten}
-use Rattle.tg_cmd.specs.Promises.{PrintsTheorem, PrintsHeadline}
+use Rattle.tg_cmd.specs.Causes.{refused, accepted, too_nested, no_text, a_text, no_token, too_large, lexed, OfInput, too_long, whole}
+use Rattle.tg_cmd.specs.Output.{limited, classes, OfTheory, IsReport, IsOutcomeLine, unread, read, Judged, proves, fails, empty, Checked, IsOutput, IsResult, IsWritten}
+use Rattle.tg_cmd.specs.Promises.{PrintsTheorem, PrintsHeadline, PrintsChecked}
 use Rattle.tg_cmd.specs.Reading.{IsTextOf}
 use Rattle.tg_harness.specs.Tests.{record_of}
 use Rattle.tg_verdict.specs.declared.errors.OutcomeErr.{OutcomeErr}
@@ -39,6 +42,16 @@ is_result a b = IsResult a → IsResult b
 pub moved : (a b : Answer) → a ≡ b → IsResult a → IsResult b
 moved a b e h = subst IsResult e h
 
+-- a result is of a text, and this comes of it
+pub result_of : (n : Part) (Of : Value n → Answer → List ℕ → Type 0) (input : List ℕ) (answer : Answer) (text : List ℕ) → IsResult answer
+    → OfInput n Of input answer text → (v : Value n) × IsTextOf n input v × Of v answer text
+result_of n Of input answer text r (too_long h line) = absurd (moved _ _ line.answers r)
+result_of n Of input answer text r (whole short (no_token place h line)) = absurd (moved _ _ line.answers r)
+result_of n Of input answer text r (whole short (too_large h line)) = absurd (moved _ _ line.answers r)
+result_of n Of input answer text r (whole short (lexed ts q (too_nested h line))) = absurd (moved _ _ line.answers r)
+result_of n Of input answer text r (whole short (lexed ts q (no_text place h i line))) = absurd (moved _ _ line.answers r)
+result_of n Of input answer text r (whole short (lexed ts q (a_text v h i g))) = (v, record { tokens = ts; lexed = q; shallow = h; text = i }, g)
+
 module _ (s : Settings) (range : AreInRange s) (input text : List ℕ) where
   of_raw : (raw : RawTheory) → IsTextOf parts.Theory input raw → OfTheory IsReport s raw Done text → PrintsTheorem s input text
   of_raw raw reads (refused place k h line) = absurd (no_result k place (moved _ _ line.answers tt))
@@ -55,12 +68,7 @@ module _ (s : Settings) (range : AreInRange s) (input text : List ℕ) where
   }
 
   pub prints_theorem : IsOutput (generate s) input Done text → PrintsTheorem s input text
-  prints_theorem (too_long h line) = absurd (moved _ _ line.answers tt)
-  prints_theorem (whole short (no_token place h line)) = absurd (moved _ _ line.answers tt)
-  prints_theorem (whole short (too_large h line)) = absurd (moved _ _ line.answers tt)
-  prints_theorem (whole short (lexed ts r (too_nested h line))) = absurd (moved _ _ line.answers tt)
-  prints_theorem (whole short (lexed ts r (no_text place h i line))) = absurd (moved _ _ line.answers tt)
-  prints_theorem (whole short (lexed ts r (a_text raw h i g))) = of_raw raw (record { tokens = ts; lexed = r; shallow = h; text = i }) g
+  prints_theorem h = let r = result_of parts.Theory (OfTheory IsReport s) input Done text tt h in of_raw r.0 r.1 r.2
 
   no_line : (e : OutcomeErr) (answer : Answer) → IsResult answer → IsOutcomeLine e answer text → ⊥
   no_line (errors.Settings stated used) answer r line = moved _ _ line.answers r
@@ -87,13 +95,27 @@ module _ (s : Settings) (range : AreInRange s) (input text : List ℕ) where
   }
 
   pub prints_headline : (answer : Answer) → IsResult answer → IsOutput (judge s) input answer text → PrintsHeadline s input text
-  prints_headline answer r (too_long h line) = absurd (moved _ _ line.answers r)
-  prints_headline answer r (whole short (no_token place h line)) = absurd (moved _ _ line.answers r)
-  prints_headline answer r (whole short (too_large h line)) = absurd (moved _ _ line.answers r)
-  prints_headline answer r (whole short (lexed ts q (too_nested h line))) = absurd (moved _ _ line.answers r)
-  prints_headline answer r (whole short (lexed ts q (no_text place h i line))) = absurd (moved _ _ line.answers r)
-  prints_headline answer r (whole short (lexed ts q (a_text v h i g))) =
-      of_judged answer r v (record { tokens = ts; lexed = q; shallow = h; text = i }) g
+  prints_headline answer r h = let q = result_of parts.Judge (Judged s) input answer text r h in of_judged answer r q.0 q.1 q.2
+
+module _ (input text : List ℕ) where
+  of_checked : (v : RawTheory × RawCert) → IsTextOf parts.Check input v → Checked v Done text → PrintsChecked input text
+  of_checked v reads (refused place k h line) = absurd (no_result k place (moved _ _ line.answers tt))
+  of_checked v reads (accepted th h (fails n i line)) = absurd (moved _ _ line.answers tt)
+  of_checked v reads (accepted th h (empty i line)) = absurd (moved _ _ line.answers tt)
+  of_checked v reads (accepted th h (proves s i line)) = record {
+    read = v;
+    theory = th;
+    sequent = s;
+    reads = reads;
+    accepted = h;
+    proves = i;
+    printed = line.says;
+    derivable = proved_is_derivable th v.1.lines s i;
+    truth = proved_is_true th (theory_is_accepted v.0.name (map raw_declaration v.0.decls) th h) v.1.lines s i;
+  }
+
+  pub prints_checked : IsOutput check input Done text → PrintsChecked input text
+  prints_checked h = let r = result_of parts.Check Checked input Done text tt h in of_checked r.0 r.1 r.2
 
 pub if_some : (P Q : List ℕ → Type 0) → ((input : List ℕ) → P input → Q input) → (o : Option (List ℕ)) → IfSome o P → IfSome o Q
 if_some P Q f None h = tt
@@ -109,3 +131,8 @@ pub headline_written : (s : Settings) → AreInRange s → (answer : Answer) (te
     → IfSome left (λ input. IsOutput (judge s) input answer text) → Appends old new text → IsWritten (PrintsHeadline s) left old new
 headline_written s range answer text left old new r h appended =
     (text, if_some (λ input. IsOutput (judge s) input answer text) (λ input. PrintsHeadline s input text) (λ input. prints_headline s range input text answer r) left h, appended)
+
+pub checked_written : (text : List ℕ) (left old new : Option (List ℕ)) → IfSome left (λ input. IsOutput check input Done text)
+    → Appends old new text → IsWritten PrintsChecked left old new
+checked_written text left old new h appended =
+    (text, if_some (λ input. IsOutput check input Done text) (λ input. PrintsChecked input text) (λ input. prints_checked input text) left h, appended)

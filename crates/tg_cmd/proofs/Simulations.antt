@@ -1,5 +1,5 @@
 -- The outcomes of a function that stands in are read by `judge` as just these.
-use Rattle.std.proofs.Common.{ℕ, ◌≡◌, ◌+◌, ◌<◌, ◌≤◌, Bool, true, false, inl, inr, List, [], ◌∷◌, ◌++◌, length, map, Option, IfSome, refl, sym, subst, arith}
+use Rattle.std.proofs.Common.{ℕ, ◌≡◌, ◌+◌, ◌<◌, ◌≤◌, Bool, true, false, inl, inr, List, [], ◌++◌, length, map, Option, IfSome, refl, sym, subst, arith}
 use Rattle.std.specs.Prelude.{nat_lt}
 use Rattle.std.specs.Io.KnownBytes.{Appends}
 use Rattle.std.proofs.lemmas.Bool.{cases_Bool}
@@ -39,7 +39,7 @@ use Rattle.tg_cmd.specs.declared.answer.Answer.{Answer}
 use Rattle.tg_cmd.specs.declared.answer.Answer.TheVariants.{Done, Limit}
 use Rattle.tg_cmd.specs.declared.answer.LimitName.TheVariants.{Input, Nesting}
 use Rattle.tg_cmd.specs.Answers.{limit_line}
-use Rattle.tg_cmd.specs.Causes.{longest, refused, accepted, too_nested, no_text, a_text, no_token, too_large, lexed, too_long, whole}
+use Rattle.tg_cmd.specs.Causes.{longest, refused, accepted, too_nested, a_text, lexed, too_long, whole}
 use Rattle.tg_cmd.specs.Data.{choices_by_data}
 use Rattle.tg_cmd.specs.Judging.{verdicts_from}
 use Rattle.tg_cmd.specs.Lines.{judged_report_on}
@@ -51,7 +51,7 @@ use Rattle.tg_cmd.specs.Requests.{judge, simulate}
 use Rattle.tg_cmd.specs.StandIn.{StandsIn, simulated}
 use Rattle.tg_cmd.specs.Tests.{tests_by_data}
 use Rattle.tg_cmd.proofs.OneOutput.{one_output}
-use Rattle.tg_cmd.proofs.Promises.{moved, no_result, if_some}
+use Rattle.tg_cmd.proofs.Promises.{moved, no_result, result_of, if_some}
 use Rattle.tg_cmd.proofs.SimpleVariables.{filled_classes}
 use Rattle.tg_cmd.proofs.SimulatedRecords.{outcome_of, records_coded, records_read, records_named}
 use Rattle.tg_cmd.proofs.SmallData.{AreInRange}
@@ -206,12 +206,7 @@ module _ (name : List ℕ) (s : Settings) (range : AreInRange s) (small : AreSma
   }
 
   pub prints_outcomes : IsOutput (simulate name s) input Done text → PrintsOutcomes name s input text
-  prints_outcomes (too_long h line) = absurd (moved _ _ line.answers tt)
-  prints_outcomes (whole short (no_token place h line)) = absurd (moved _ _ line.answers tt)
-  prints_outcomes (whole short (too_large h line)) = absurd (moved _ _ line.answers tt)
-  prints_outcomes (whole short (lexed ts r (too_nested h line))) = absurd (moved _ _ line.answers tt)
-  prints_outcomes (whole short (lexed ts r (no_text place h i line))) = absurd (moved _ _ line.answers tt)
-  prints_outcomes (whole short (lexed ts r (a_text raw h i g))) = of_raw raw (record { tokens = ts; lexed = r; shallow = h; text = i }) g
+  prints_outcomes h = let r = result_of parts.Theory (OfTheory (OfStandIn name) s) input Done text tt h in of_raw r.0 r.1 r.2
 
 pub outcomes_written : (name : List ℕ) (s : Settings) → AreInRange s → AreSmall s → (text : List ℕ) (left old new : Option (List ℕ))
     → IfSome left (λ input. IsOutput (simulate name s) input Done text) → Appends old new text

@@ -8,7 +8,7 @@ use Rattle.tg_cmd.specs.declared.answer.Answer.TheVariants.{Done, TestsFailed, U
 use Rattle.tg_cmd.specs.declared.answer.Ending.{Ending}
 use Rattle.tg_cmd.specs.declared.answer.Ending.TheVariants as endings
 use Rattle.tg_cmd.specs.declared.answer.Refusal.{Refusal}
-use Rattle.tg_cmd.specs.declared.answer.Refusal.TheVariants.{Form, Name, Typing, Ambiguous, Shape, Program, Settings, Unknown, Repeated, BadAnswer, StandIn}
+use Rattle.tg_cmd.specs.declared.answer.Refusal.TheVariants.{Form, Name, Typing, Ambiguous, Shape, Program, Settings, Unknown, Repeated, BadAnswer, StandIn, Certificate}
 use Rattle.tg_cmd.specs.declared.answer.LimitName.{LimitName}
 use Rattle.tg_cmd.specs.declared.answer.LimitName.TheVariants.{Input, Number, Nesting, TermSize, Patterns, Splits, Steps, Clauses}
 
@@ -41,6 +41,7 @@ refusal_line (Unknown test) = codes "refused unknown at test " ++ (decimal test 
 refusal_line (Repeated test) = codes "refused repeated at test " ++ (decimal test ++ codes "\n")
 refusal_line (BadAnswer test) = codes "refused answer at test " ++ (decimal test ++ codes "\n")
 refusal_line StandIn = codes "refused standin\n"
+refusal_line (Certificate line) = codes "refused certificate at line " ++ (decimal line ++ codes "\n")
 refusal_line (Program place) = codes "refused program at declaration " ++ (decimal place ++ codes "\n")
 
 abbrev pub limit_line : LimitName → List ℕ

@@ -1,5 +1,6 @@
 pub mod Answers
 pub mod Causes
+pub mod CheckedLines
 pub mod Data
 pub mod Ends
 pub mod Judging

@@ -1,9 +1,13 @@
 -- What a run reads and writes.
-use Rattle.std.specs.Prelude.{ℕ, ◌+◌, ◌≡◌, ◌<◌, ◌≤◌, ◌⊎◌, nat_eq, if◌then◌else◌, List, length, map, take, drop, Option, Some, None, IfSome}
+use Rattle.std.specs.Prelude.{ℕ, ◌+◌, ◌≡◌, ◌<◌, ◌≤◌, ◌⊎◌, nat_eq, if◌then◌else◌, List, [], length, map, take, drop, Option, Some, None, IfSome}
 use Rattle.std.specs.Io.KnownBytes.{Consumes, Appends}
 use Rattle.tg_io.specs.Faults.{Rose}
+use Rattle.tg_model.specs.Formula.{Sequent}
 use Rattle.tg_model.specs.Theory as model
 use Rattle.tg_types.specs.declared.options.Settings.{Settings}
+use Rattle.tg_cert.specs.Certificates.{Proves, FailsAt}
+use Rattle.tg_grammar.specs.declared.certificates.RawCert.{RawCert}
+use Rattle.tg_grammar.specs.declared.certificates.RawLine.{RawLine}
 use Rattle.tg_grammar.specs.declared.declarations.RawTheory.{RawTheory}
 use Rattle.tg_grammar.specs.declared.outcomes.RawOutcomes.{RawOutcomes}
 use Rattle.tg_grammar.specs.Parts.{Theory}
@@ -25,13 +29,14 @@ use Rattle.tg_cmd.specs.declared.answer.LimitName.TheVariants as limits
 use Rattle.tg_cmd.specs.declared.making.Task.{Task}
 use Rattle.tg_cmd.specs.declared.making.Task.TheVariants as tasks
 use Rattle.tg_cmd.specs.Causes.{longest, IsRefusal, IsLimit, OfRaw, OfInput}
+use Rattle.tg_cmd.specs.CheckedLines.{checked_text}
 use Rattle.tg_cmd.specs.Data.{choices_by_data}
 use Rattle.tg_harness.specs.HarnessTexts.{harness_text}
 use Rattle.tg_harness.specs.OutcomeTexts.{outcomes_text}
 use Rattle.tg_harness.specs.Tests.{Record, record_of}
 use Rattle.tg_cmd.specs.Judging.{tests_from, verdicts_from}
 use Rattle.tg_cmd.specs.Lines.{count_of, report_on, judged_report_on}
-use Rattle.tg_cmd.specs.Requests.{Request, generate, harness, judge, simulate}
+use Rattle.tg_cmd.specs.Requests.{Request, generate, harness, judge, simulate, check}
 use Rattle.tg_cmd.specs.StandIn.{StandsIn, simulated}
 use Rattle.tg_cmd.specs.Tests.{tests_by_data}
 
@@ -112,6 +117,23 @@ pub data OfOutcomes (s : Settings) (raw : RawOutcomes) (th : model.Theory) (cs :
 abbrev pub Judged : Settings → RawTheory × RawOutcomes → Answer → List ℕ → Type 0
 Judged s v = OfTheory (λ s th. OfOutcomes s v.1 th) s v.0
 
+-- ---- `check`
+
+-- the last of the lines has the sequent
+pub record IsChecked (th : model.Theory) (rs : List RawLine) (s : Sequent) (answer : Answer) (text : List ℕ) : Type 0 where
+  pub answers : answer ≡ Done
+  pub says : text ≡ checked_text th (length rs) s
+
+-- Of the lines of a certificate: they prove a sequent, or fail at a line, or there is none.
+pub data OfCertificate (th : model.Theory) (rs : List RawLine) (answer : Answer) (text : List ℕ) : Type 0 where
+  proves : (s : Sequent) → Proves th rs s → IsChecked th rs s answer text → OfCertificate th rs answer text
+  fails : (n : ℕ) → FailsAt th rs n → IsRefusal (refusals.Certificate n) answer text → OfCertificate th rs answer text
+  empty : rs ≡ [] → IsRefusal (refusals.Certificate 0) answer text → OfCertificate th rs answer text
+
+-- no classes are made
+abbrev pub Checked : RawTheory × RawCert → Answer → List ℕ → Type 0
+Checked v = OfRaw (λ th. OfCertificate th v.1.lines) v.0
+
 -- ---- a run
 
 -- what a run that is asked for this and ends with the answer has to write, where the source held `input`
@@ -120,6 +142,7 @@ IsOutput (generate s) input answer text = OfInput Theory (OfTheory IsReport s) i
 IsOutput (harness s) input answer text = OfInput Theory (OfTheory IsHarness s) input answer text
 IsOutput (judge s) input answer text = OfInput parts.Judge (Judged s) input answer text
 IsOutput (simulate name s) input answer text = OfInput Theory (OfTheory (OfStandIn name) s) input answer text
+IsOutput check input answer text = OfInput parts.Check Checked input answer text
 
 -- what the source had left was read, but for what stands behind one byte past the longest input
 abbrev pub IsRead : Option (List ℕ) → Option (List ℕ) → Type 0

@@ -1,11 +1,14 @@
--- What is promised of the test theorem that a report prints, and of the outcomes of a function that stands in.
-use Rattle.std.specs.Prelude.{ℕ, suc, ◌≡◌, false, ◌⊎◌, List, [], ◌∷◌, ◌++◌, Option, Some, None, map}
+-- What is promised of the test theorem that a report prints, of the outcomes of a function that stands in, and of the sequent that a
+-- certificate proves.
+use Rattle.std.specs.Prelude.{ℕ, suc, ◌≡◌, false, ◌⊎◌, List, [], ◌∷◌, ◌++◌, Option, Some, None, length, map}
+use Rattle.tg_model.specs.Formula.{Sequent}
 use Rattle.tg_model.specs.Theory.{Theory}
 use Rattle.tg_model.specs.Table.{Table, IsTable}
 use Rattle.tg_model.specs.Denotation.{den}
 use Rattle.tg_model.specs.Filling.{fill}
 use Rattle.tg_model.specs.Value.{boolean}
 use Rattle.tg_term.specs.declared.classes.Outcome.{Outcome}
+use Rattle.tg_grammar.specs.declared.certificates.RawCert.{RawCert}
 use Rattle.tg_grammar.specs.declared.outcomes.RawOutcomes.{RawOutcomes}
 use Rattle.tg_types.specs.declared.verdicts.Verdict.TheVariants.{Passed, Failed}
 use Rattle.tg_verdict.specs.Records.{AreOutcomes}
@@ -15,7 +18,10 @@ use Rattle.tg_accept.specs.Declared.{nothing}
 use Rattle.tg_accept.specs.Theories.{IsTheoryOf}
 use Rattle.tg_grammar.specs.declared.declarations.RawTheory.{RawTheory}
 use Rattle.tg_grammar.specs.Parts as parts
+use Rattle.tg_calculus.specs.Derivation.{Derives}
 use Rattle.tg_calculus.specs.Theorem.{IsTheorem}
+use Rattle.tg_kernel.specs.Books.{IsTrueEverywhere}
+use Rattle.tg_cert.specs.Certificates.{Proves}
 use Rattle.tg_hyps.specs.Hypotheses.{Class}
 use Rattle.tg_infer.specs.View.{raw_declaration}
 use Rattle.tg_derive.specs.Classes.{AreClasses}
@@ -23,6 +29,7 @@ use Rattle.tg_derive.specs.Theorem.{Choice, theorem_of, assumptions_of}
 use Rattle.tg_cmd.specs.declared.answer.Answer.{Answer}
 use Rattle.tg_cmd.specs.declared.answer.LimitName.TheVariants.{Input, Nesting}
 use Rattle.tg_cmd.specs.Causes.{IsLimit}
+use Rattle.tg_cmd.specs.CheckedLines.{checked_text}
 use Rattle.tg_cmd.specs.Data.{choices_by_data}
 use Rattle.tg_harness.specs.OutcomeTexts.{outcomes_text}
 use Rattle.tg_harness.specs.Tests.{Record, record_of}
@@ -119,3 +126,16 @@ pub record PrintsOutcomes (name : List ℕ) (s : Settings) (input text : List �
   pub judged_by : (whole : List ℕ) → IsBehind input text whole → (answer : Answer) (report : List ℕ)
       → IsOutput (judge s) whole answer report
       → IsJudgedBy s theory classes (simulated theory function (tests_by_data theory s classes)) answer report
+
+-- The text has the sequent that the certificate proves, on the theory that both read as. Whoever wrote the certificate, the sequent has a
+-- derivation by the rules of the calculus, and is true at all values of its variables on every table.
+pub record PrintsChecked (input text : List ℕ) : Type 0 where
+  pub read : RawTheory × RawCert
+  pub theory : Theory
+  pub sequent : Sequent
+  pub reads : IsTextOf parts.Check input read
+  pub accepted : IsTheoryOf read.0.name nothing (map raw_declaration read.0.decls) theory
+  pub proves : Proves theory read.1.lines sequent
+  pub printed : text ≡ checked_text theory (length read.1.lines) sequent
+  pub derivable : Derives theory sequent
+  pub truth : IsTrueEverywhere theory sequent

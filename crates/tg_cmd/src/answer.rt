@@ -101,6 +101,12 @@ pub enum Refusal {
     /// No function of the name has the program's type, at whatever types for its type variables.
     #[error("refused standin")]
     StandIn,
+    /// A line of a certificate bears another number than its place, or is no instance of its rule on earlier lines.
+    #[error("refused certificate at line {line}")]
+    Certificate {
+        /// The place of the first such line, from 1; 0 where there is no line.
+        line: u64,
+    },
 }
 
 /// What an input can have too much of.
@@ -177,14 +183,15 @@ pub(crate) fn put_refusal(out: &mut Vec<u8>, refusal: Refusal) -> Result<(), All
         Refusal::Repeated { test } => put_place(out, b"refused repeated at test ", test),
         Refusal::BadAnswer { test } => put_place(out, b"refused answer at test ", test),
         Refusal::StandIn => put(out, &[Text(b"refused standin\n")]),
+        Refusal::Certificate { line } => put_place(out, b"refused certificate at line ", line),
     }
 }
 
-/// A line that ends with a number, that of a declaration or of a test.
-fn put_place(out: &mut Vec<u8>, words: &[u8], decl: u64) -> Result<(), AllocError>
-    ensures { OnOk result (out.new.items ≡ out.old.items ++ (words.now ++ (decimal decl ++ codes "\n"))) }
+/// A line that ends with a number, that of a declaration, of a test or of a line.
+fn put_place(out: &mut Vec<u8>, words: &[u8], place: u64) -> Result<(), AllocError>
+    ensures { OnOk result (out.new.items ≡ out.old.items ++ (words.now ++ (decimal place ++ codes "\n"))) }
 {
-    put(out, &[Text(words), Number(decl), Text(b"\n")])
+    put(out, &[Text(words), Number(place), Text(b"\n")])
 }
 
 /// The line of two lists of settings.

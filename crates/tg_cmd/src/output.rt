@@ -5,7 +5,7 @@ ghost use Rattle.tg_grammar.specs.Seen.{seen, declarations};
 ghost use Rattle.tg_cmd.specs.declared.answer.Refusal.TheVariants as refusals;
 ghost use Rattle.tg_cmd.specs.Answers.{answer_after};
 ghost use Rattle.tg_cmd.specs.Causes.{longest, IsRefusal, IsLimit, OfInput};
-ghost use Rattle.tg_cmd.specs.Output.{IsOutput, IsRead, IsReadInPart, IsStop, IsJudgement, Makes, OfClasses, OfOutcomes, OfTheory, Judged, IsOutcomeLine};
+ghost use Rattle.tg_cmd.specs.Output.{IsOutput, IsRead, IsReadInPart, IsStop, IsJudgement, Makes, OfClasses, OfOutcomes, OfTheory, Judged, Checked, IsOutcomeLine};
 ghost use Rattle.tg_cmd.specs.Ends.{IsFaultLine, HasTokenLine, IsTheoryLine, IsPassedLine};
 ghost use Rattle.tg_infer.specs.TextNames.{IsNamed};
 ghost use Rattle.tg_cmd.specs.Data.{choices_by_data};
@@ -19,6 +19,7 @@ ghost use Rattle.tg_hyps.specs.Hypotheses as hyps;
 ghost use Rattle.tg_verdict.specs.Places.{AreOnce, outcome_number};
 
 use crate::answer::{Answer, Ending, LimitName, Refusal, put_limit, put_refusal};
+use crate::certificates::checked_theory;
 use crate::data::choices_by_data;
 use crate::judging::{ending_on, tests_of};
 use crate::making::{Task, make};
@@ -26,11 +27,11 @@ use crate::report::judged_report_on;
 use crate::request::Request;
 use std::alloc::{AllocError, Global};
 use tg_derive::{Choice, LimitErr, classes};
-use tg_grammar::{RawOutcomes, RawTheory, place};
+use tg_grammar::{RawCert, RawOutcomes, RawTheory, place};
 use tg_infer::{TheoryErr, elaborate};
 use tg_io::{ReadErr, Source, read_all};
 use tg_lex::{LexErr, Token, lex};
-use tg_syntax::{FormErr, parse_judge, parse_theory};
+use tg_syntax::{FormErr, parse_check, parse_judge, parse_theory};
 use tg_term::{Class, Outcome, Test};
 use tg_theory::Theory;
 use tg_types::Settings;
@@ -132,6 +133,7 @@ fn of_tokens(
         Request::Simulate(name, settings) => {
             of_theory(alloc, settings, &Task::Outcomes(name), bytes, tokens)
         }
+        Request::Check => of_certificate(alloc, bytes, tokens),
     }
 }
 
@@ -166,6 +168,18 @@ fn of_outcomes(
 {
     match parse_judge(alloc, bytes, tokens) {
         Ok((theory, outcomes)) => judged(alloc, settings, &theory, &outcomes),
+        Err(error) => without_text(alloc, error),
+    }
+}
+
+/// What the certificate proves that the tokens are, on the theory before it.
+fn of_certificate(alloc: Global, bytes: &[u8], tokens: &[Token]) -> Result<Output, NoMemory>
+    requires { Reads bytes.now tokens.now }
+    ensures { length bytes.now ≤ longest
+        → IfOk result (λ o. OfInput parts.Check Checked bytes.now (answer_after o.ending) o.text.items) }
+{
+    match parse_check(alloc, bytes, tokens) {
+        Ok((theory, certificate)) => checked(alloc, &theory, &certificate),
         Err(error) => without_text(alloc, error),
     }
 }
@@ -236,6 +250,17 @@ fn unaccepted(alloc: Global, error: TheoryErr) -> Result<Output, NoMemory>
         TheoryErr::Shape { decl } => refused(alloc, Refusal::Shape { decl }),
         TheoryErr::Program { decl } => refused(alloc, Refusal::Program { decl }),
         TheoryErr::Memory => Err(NoMemory),
+    }
+}
+
+/// What a certificate proves on a theory, or the line that says why there is nothing.
+fn checked(alloc: Global, read: &RawTheory, certificate: &RawCert) -> Result<Output, NoMemory>
+    requires { IsNamed read.now }
+    ensures { IfOk result (λ o. Checked (read.now, certificate.now) (answer_after o.ending) o.text.items) }
+{
+    match elaborate(alloc, read) {
+        Ok(theory) => checked_theory(alloc, &theory, certificate),
+        Err(error) => unaccepted(alloc, error),
     }
 }
 

@@ -20,6 +20,8 @@ pub(crate) enum Request<'a> {
     Judge(Settings),
     /// The outcomes of the tests where the function of the name stands in as the program.
     Simulate(&'a Name, Settings),
+    /// The sequent that a certificate proves.
+    Check,
 }
 
 #[derive(Clone, Copy, Debug)]
@@ -28,6 +30,7 @@ enum Command {
     Harness,
     Judge,
     Simulate,
+    Check,
 }
 
 /// What the words ask for, if they are those of a command.
@@ -43,6 +46,8 @@ pub(crate) fn request_of(words: &[Name]) -> Option<Request<'_>>
                 let (name, settings) = named(rest)?;
                 Some(Request::Simulate(name, settings))
             }
+            Command::Check if rest.is_empty() => Some(Request::Check),
+            Command::Check => None,
         },
         [] => None,
     }
@@ -60,6 +65,8 @@ fn command_of(word: &Name) -> Option<Command>
         Some(Command::Judge)
     } else if word == b"simulate".as_slice() {
         Some(Command::Simulate)
+    } else if word == b"check".as_slice() {
+        Some(Command::Check)
     } else {
         None
     }

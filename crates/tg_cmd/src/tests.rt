@@ -237,7 +237,7 @@ fn faults_are_answered_as_such(rt: HostRuntime) -> Result<(), Fail> {
 
 #[test]
 fn other_words_are_no_command(rt: HostRuntime) -> Result<(), Fail> {
-    let (answer, sink) = run_whole(rt.alloc(), b"check", INC)?;
+    let (answer, sink) = run_whole(rt.alloc(), b"prove", INC)?;
     assert_eq!(rt; answer, Answer::Usage);
     assert_eq!(rt; answer.status(), 2);
     assert_eq!(rt; sink.bytes(), b"".as_slice());

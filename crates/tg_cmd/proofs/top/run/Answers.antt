@@ -6,11 +6,11 @@ use Rattle.tg_cmd.specs.declared.answer.Answer.TheVariants.{Done, TestsFailed, R
 use Rattle.tg_cmd.specs.declared.answer.Ending.{Ending}
 use Rattle.tg_cmd.specs.declared.answer.Ending.TheVariants as endings
 use Rattle.tg_cmd.specs.Answers.{answer_after}
-use Rattle.tg_cmd.specs.Requests.{Request, generate, judge, simulate, asked, ReadsWords, AskFor}
+use Rattle.tg_cmd.specs.Requests.{Request, generate, judge, simulate, check, asked, ReadsWords, AskFor}
 use Rattle.tg_cmd.specs.Output.{IsOutput, IsRead, HasBytes, Completes}
 use Rattle.tg_cmd.proofs.Completeness.{all_complete}
 use Rattle.tg_cmd.proofs.SmallData.{settings_in_range}
-use Rattle.tg_cmd.proofs.Promises.{theorem_written, headline_written}
+use Rattle.tg_cmd.proofs.Promises.{theorem_written, headline_written, checked_written}
 use Rattle.tg_cmd.proofs.Simulations.{outcomes_written}
 use Rattle.tg_cmd.proofs.SmallSettings.{settings_small}
 use Rattle.tg_cmd.proofs.top.run.Goals as goal
@@ -180,3 +180,12 @@ returns-in-Done-clause-simulated g c = λ name t words done.
     outcomes_written name t (settings_in_range options.0 t options.2) (settings_small options.0 t options.2) c.as_slice.result.now before
     (g.K.Sink.written c.args.sink.now) (g.K.Sink.written c.write_all.new.sink)
     (subst (λ (z : List ℕ). IfSome before (λ input. IsOutput (simulate name t) input Done z)) (sym c.as_slice.ensures.value) made) c.in-Ok-write_all.ensures.whole
+
+pub returns-in-Done-clause-checked : goal.returns-in-Done-clause-checked
+returns-in-Done-clause-checked g c = λ words done.
+    let before = g.S.Source.left c.args.source.now in
+    let r = asked c.in-Some.request in
+    let made = output_at c.args.words.now r check before Done c.in-Ok.output.text.items c.in-Some.ensures words
+    (subst (λ (e : Ending). IfSome before (λ input. IsOutput r input (answer_after e) c.in-Ok.output.text.items)) c.in-Done.is c.in-Ok.ensures.made) in
+    checked_written c.as_slice.result.now before (g.K.Sink.written c.args.sink.now) (g.K.Sink.written c.write_all.new.sink)
+    (subst (λ (z : List ℕ). IfSome before (λ input. IsOutput check input Done z)) (sym c.as_slice.ensures.value) made) c.in-Ok-write_all.ensures.whole
