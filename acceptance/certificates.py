@@ -115,7 +115,8 @@ def examples():
         elif info == 'certificate passes':
             lines = text
         elif info == 'sequent':
-            yield rule, theory, lines, text if text.startswith('checked') else f'checked {theory.split()[1]}\nlines {lines.count(";")}\n{text}'
+            head = '' if text.startswith('checked') else f'checked {theory.split()[1]}\nlines {lines.count(";")}\n'
+            yield rule, theory, lines, head + text
         elif info.startswith('certificate refused'):
             yield rule, theory, text, info.replace('certificate refused', 'refused certificate') + '\n'
 
@@ -141,9 +142,11 @@ def long():
     """A certificate of many lines, and formulas at the limit of nesting and past it."""
     theory = read(os.path.join(FOLDER, 'rules.thy'))
     lines = '1 true {};\n' + ''.join(f'{n} weak {n - 1} [True];\n' for n in range(2, 20001))
-    yield case('certificate-of-20000-lines', theory + framed(lines), 'checked Rules\nlines 20000\nvars {}\nhypothesis [True]\nconclusion [True]\n')
+    out = 'checked Rules\nlines 20000\nvars {}\nhypothesis [True]\nconclusion [True]\n'
+    yield case('certificate-of-20000-lines', theory + framed(lines), out)
     formula = '(THYP ' * 399 + '[True]' + ')' * 399
-    yield case('formula-400-deep', theory + framed(f'1 hyp {{}} {formula};\n'), f'checked Rules\nlines 1\nvars {{}}\nhypothesis {formula}\nconclusion {formula}\n')
+    out = f'checked Rules\nlines 1\nvars {{}}\nhypothesis {formula}\nconclusion {formula}\n'
+    yield case('formula-400-deep', theory + framed(f'1 hyp {{}} {formula};\n'), out)
     yield case('formula-401-deep', theory + framed(f'1 hyp {{}} (THYP {formula});\n'), 'limit nesting 400\n')
 
 
