@@ -8,8 +8,9 @@ PROGRAM is crates/testgen/out/testgen where none is named. A case is a folder of
 
 After them come cases that are made here: each front of a theory with the place of its fault, inputs of the greatest size and
 one byte more, theories that are accepted or refused (theories.py), long reports and those at each limit and past it (reports.py),
-each rewrite schema on a term to which it applies and on one close by (rewriting.py), four texts with every kind of token in every
-place, whose faults viable.py tells, and programs that the harness runs (programs.py).
+each rewrite schema on a term to which it applies and on one close by (rewriting.py), certificates that are accepted or refused
+(certificates.py), four texts with every kind of token in every place, whose faults viable.py tells, and programs that the harness
+runs (programs.py).
 
 The last line is 'N passed, N failed'; the exit status is 0 where none failed and some passed.
 """
@@ -19,6 +20,7 @@ import re
 import subprocess
 import sys
 
+import certificates
 import programs
 import reports
 import rewriting
@@ -132,7 +134,7 @@ def main():
     if not os.access(program, os.X_OK):
         print(f'no program stands at {program}: rt ci makes it\n0 passed, 1 failed')
         return 1
-    cases = [(faults, case) for case in (*stored(), *cuts(), *sizes())]
+    cases = [(faults, case) for case in (*stored(), *cuts(), *sizes(), *certificates.cases())]
     for check, made in ((theory_faults, theories.cases()), (report_faults, reports.cases()), (form_faults, rewriting.cases()), (token_faults, tokens()),
                         (programs.faults, programs.cases())):
         cases += [(check, case) for case in made]
