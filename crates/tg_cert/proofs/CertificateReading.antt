@@ -161,8 +161,7 @@ module _ (th : Theory) (written : IsWritten th) where
       let v = raw_ty th t in
       let vs = map (raw_ty th) ts in
       made parts.Context (v ∷ vs) (l ∷ ((xs ++ ys) ++ r ∷ []))
-      (symbol open_brace (codes "{") refl, proper-append (xs ++ ys) (r ∷ []) (proper-append xs ys first.proper rest.proper) (symbol close_brace (codes "}") refl, tt))
-      (
+      (symbol open_brace (codes "{") refl, proper-append (xs ++ ys) (r ∷ []) (proper-append xs ys first.proper rest.proper) (symbol close_brace (codes "}") refl, tt)) (
         Some (v ∷ vs),
         refl,
         (
@@ -550,8 +549,8 @@ module _ (th : Theory) (written : IsWritten th) where
         let m1 = after "begin" (nt parts.Lines ◂ "end") vs (name (codes "begin")) (ts ++ end ∷ []) refl m0 in
         let m2 = after "1" ("begin" ▸ nt parts.Lines ◂ "end") vs (numeral 1) (name (codes "begin") ∷ (ts ++ end ∷ [])) refl m1 in
         let m3 =
-            after "certificate" ("1" ▸ "begin" ▸ nt parts.Lines ◂ "end") vs (name (codes "certificate"))
-            (numeral 1 ∷ name (codes "begin") ∷ (ts ++ end ∷ [])) refl m2
+        after "certificate" ("1" ▸ "begin" ▸ nt parts.Lines ◂ "end") vs (name (codes "certificate"))
+        (numeral 1 ∷ name (codes "begin") ∷ (ts ++ end ∷ [])) refl m2
         in
         subst (λ (us : List Seen). IsText parts.Certificate (record { lines = vs }) (name (codes "certificate") ∷ numeral 1 ∷ name (codes "begin") ∷ us))
         (sym (at_end (lines_from th 1 ls) end))

@@ -36,9 +36,12 @@ module _ (b : Book) (r : RawLine) where
 
   module _ (l : Line) (said : IsAnswer (Says b.theory Done r) (Some l)) where
     pub no_instance : (c : Book) → c ≡ b → IsNone b l → Takes b c r false
-    no_instance c same none = (same, λ e i.
-        let line : e.line ≡ l = one_line b.theory Done r e.line l i.says said in
-        none e.sequent (subst (λ (x : Line). IsInstance b.theory Done x e.sequent) line i.instance))
+    no_instance c same none = (
+      same,
+      λ e i.
+          let line : e.line ≡ l = one_line b.theory Done r e.line l i.says said in
+          none e.sequent (subst (λ (x : Line). IsInstance b.theory Done x e.sequent) line i.instance),
+    )
 
     pub taken : (n m : ℕ) → n ≡ length b.entries + 1 → r.number ≡ n → (c : Book) → IsAppended b c l m → Takes b c r true
     taken n m is number c a =
@@ -168,7 +171,9 @@ pub at_length : (b : Book) (n : ℕ) (s : Sequent) → n ≡ length b.entries �
 at_length b n s is at = ap (numbered (sequents b.entries)) (sym is) ∙ at
 
 pub ruleset checking = (begins, words_there, goes_on, stops, all_checked)
+
 pub ruleset ending = (without, at_length)
+
 pub ruleset concluding = (proves, derives, is_true, refuses)
 
 pub checked_for : (th th' : Theory) (rs rs' : List RawLine) (b : Book) → th ≡ th' → rs ≡ rs' → AreChecked th rs b → AreChecked th' rs' b

@@ -130,10 +130,10 @@ module _ (th : Theory) where
         let name : name_at (constructors_of th (suc d)) at ≡ k.name =
         ap (λ o. option_map_or (λ (x : Constructor). x.name) o []) (ap (slice_get (constructors_of th (suc d))) (sym there) ∙ all 0) in (
           ap (λ x. option_map of (constructor_named (declared_in th) x)) name
-          ∙ ap (option_map of) (constructor_found th ok c (owned (suc d) k) (ap (constructor_at th) (sym here) ∙ own 0 k refl)),
+              ∙ ap (option_map of) (constructor_found th ok c (owned (suc d) k) (ap (constructor_at th) (sym here) ∙ own 0 k refl)),
           meant_from d (at + 1) (suc c) cs
-          (λ i l e. let next : suc c + i ≡ c + suc i = omega arith in ap (constructor_at th) next ∙ own (suc i) l e)
-          (λ i. let next : at + 1 + i ≡ at + suc i = omega arith in ap (slice_get (constructors_of th (suc d))) next ∙ all (suc i)),
+              (λ i l e. let next : suc c + i ≡ c + suc i = omega arith in ap (constructor_at th) next ∙ own (suc i) l e)
+              (λ i. let next : at + 1 + i ≡ at + suc i = omega arith in ap (slice_get (constructors_of th (suc d))) next ∙ all (suc i)),
         )
 
     are_meant : (d : ℕ) (sizes : List ℕ) → AreBranchSizes th d sizes → AreMeant d 0 (heads_of th d)
@@ -141,8 +141,8 @@ module _ (th : Theory) where
     are_meant (suc d) sizes (x, is, count) =
         let cs = ap (λ o. option_map_or (λ (y : Datatype). y.constructors) o []) is in
         let all =
-            meant_from d 0 (first_constructor th.datatypes (suc d)) x.constructors (λ i k e. constructor_number th d x i k is e)
-            (λ i. let e : 0 + i ≡ i = omega arith in ap (slice_get (constructors_of th (suc d))) e ∙ ap (λ l. slice_get l i) cs)
+        meant_from d 0 (first_constructor th.datatypes (suc d)) x.constructors (λ i k e. constructor_number th d x i k is e)
+        (λ i. let e : 0 + i ≡ i = omega arith in ap (slice_get (constructors_of th (suc d))) e ∙ ap (λ l. slice_get l i) cs)
         in
         rw (is) all
 
@@ -192,7 +192,7 @@ module _ (th : Theory) where
       term_back n (tree.case d t arms) h c =
           let first = term_back n t h.0 c.1 in
           let rest =
-              arms_back n d 0 arms (heads_of th d) h.2 c.2 (as_many th d (branch_sizes arms) c.0) (are_meant d (branch_sizes arms) c.0)
+          arms_back n d 0 arms (heads_of th d) h.2 c.2 (as_many th d (branch_sizes arms) c.0) (are_meant d (branch_sizes arms) c.0)
           in
           ap (resolve (certificate_scope th) (levels n)) (raw_term-Case (text.raw_term th n t ∷ []) (text.raw_branches th n d 0 arms))
           ∙ (λ i. option_and_then (λ u. option_map (λ vs. resolved.case (datatype_of_first (declared_in th) vs) u vs) (rest i)) (first i))

@@ -51,12 +51,12 @@ module _ (th : Theory) where
       let types = one_list_of_types th r.vars a.types b.types s.types t.types in
       let row = one_option IsRowOf (λ x k l p q. one_some _ k l p q) r.word a.row b.row s.row t.row in
       let formula =
-          one_option (λ (f : RawFormula). IsFormulaOf th G (raw_formula f)) (λ f F Q p q. one_formula th G [] (raw_formula f) F Q p q) r.formula a.formula b.formula
-          s.formula t.formula
+      one_option (λ (f : RawFormula). IsFormulaOf th G (raw_formula f)) (λ f F Q p q. one_formula th G [] (raw_formula f) F Q p q) r.formula a.formula b.formula
+      s.formula t.formula
       in
       let terms =
-          one_list (λ (x : RawTerm). IsTermOf th G (raw_term x)) (λ x u v p q. one_term th G [] p.0 q.0 (raw_term x) u v p.1 q.1) r.terms a.terms b.terms
-          s.terms t.terms
+      one_list (λ (x : RawTerm). IsTermOf th G (raw_term x)) (λ x u v p q. one_term th G [] p.0 q.0 (raw_term x) u v p.1 q.1) r.terms a.terms b.terms
+      s.terms t.terms
       in
       let number = s.number ∙ sym t.number in λ i. record { types = types i; row = row i; formula = formula i; terms = terms i; number = number i }
 
@@ -65,7 +65,7 @@ module _ (th : Theory) where
       let types = one_list_of_types th r.vars s.arguments.types t.arguments.types s.stand.types t.stand.types in
       let context = one_some _ s.context t.context (ap (context_at done (premises_of r)) (sym types) ∙ s.read_in) t.read_in in
       let given =
-          one_stand t.context r s.arguments t.arguments (subst (λ (G : Context). Stand th G r s.arguments) context s.stand) t.stand
+      one_stand t.context r s.arguments t.arguments (subst (λ (G : Context). Stand th G r s.arguments) context s.stand) t.stand
       in
       let rule = one_some _ l.rule m.rule (ap (λ (a : Arguments). rule_of a r.rule) (sym given) ∙ s.rule) t.rule in
       let premises = s.premises ∙ sym t.premises in λ i. record { rule = rule i; premises = premises i }

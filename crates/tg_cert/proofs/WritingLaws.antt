@@ -78,6 +78,7 @@ module _ (th : Theory) where
       ∙ ap (λ H. written out (context_tokens th H)) same
 
 pub ruleset contexts = (none_written, some_written, braced)
+
 pub ruleset numbers = (number_next, number_last)
 
 -- ---- lines

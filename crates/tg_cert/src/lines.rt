@@ -43,7 +43,8 @@ pub(crate) fn line_of(
     let Some(context) = context_at(book, premises, &types)? else {
         return Ok(None);
     };
-    let Some(given) = arguments_of(alloc, words, book.theory(), &context, types, number, raw)? else {
+    let Some(given) = arguments_of(alloc, words, book.theory(), &context, types, number, raw)?
+    else {
         return Ok(None);
     };
     let Some(rule) = rule_of(raw.rule, given)? else {

@@ -102,10 +102,8 @@ fn put_first(out: &mut Vec<u8>, th: &Theory, rule: &Rule) -> Result<(), AllocErr
     ensures { OnOk result (out.new.items ≡ written out.old.items (first_tokens th.now (as_rule rule.now))) }
 {
     match rule {
-        Rule::Hyp(vars, _)
-        | Rule::Truth(vars)
-        | Rule::Refl(vars, _)
-        | Rule::Compute(vars, _) => put_context(out, th, vars),
+        Rule::Hyp(vars, _) | Rule::Truth(vars) | Rule::Refl(vars, _) | Rule::Compute(vars, _) =>
+            put_context(out, th, vars),
         Rule::Schema(vars, row, _) => {
             put_context(out, th, vars)?;
             put_token(out, row_name(*row))
@@ -125,11 +123,8 @@ fn put_last(out: &mut Vec<u8>, th: &Theory, rule: &Rule) -> Result<(), AllocErro
     ensures { OnOk result (out.new.items ≡ written out.old.items (last_tokens th.now (as_rule rule.now))) }
 {
     match rule {
-        Rule::Hyp(_, f)
-        | Rule::Weak(f)
-        | Rule::ImpI(f)
-        | Rule::Absurd(f)
-        | Rule::Replace(f) => put_formula(out, th, f),
+        Rule::Hyp(_, f) | Rule::Weak(f) | Rule::ImpI(f) | Rule::Absurd(f) | Rule::Replace(f) =>
+            put_formula(out, th, f),
         Rule::Grow(types) => put_context(out, th, types),
         Rule::AllE(t)
         | Rule::Split(t)
